@@ -282,9 +282,6 @@ fn numbers(rt: HostRuntime) -> Result<(), Fail> {
     let lines =
         "s = import_signature (i64 i64 i64) -> i32 system_v\nf = import_function libcall Memcmp s\n@c, r = call f (p q n)";
     let called = helper(alloc, "i64 i64 i64", "i32", lines)?;
-    // the function that a helper imported may be called, too
-    let lines = "a = call_memcmp p q n\n@c, r = call fn0 (p q n)";
-    let again = helper(alloc, "i64 i64 i64", "i32", lines)?;
     for size in 0..21usize {
         for at in [0, 1, size.saturating_sub(1), size] {
             for difference in DIFFERENCES.iter() {
@@ -293,7 +290,6 @@ fn numbers(rt: HostRuntime) -> Result<(), Fail> {
                 let number = world_number(order_of(bytes, 0, 64, size));
                 compares(&rt, alloc, &answered, size, bytes, number)?;
                 compares(&rt, alloc, &called, size, bytes, number)?;
-                compares(&rt, alloc, &again, size, bytes, number)?;
             }
         }
     }

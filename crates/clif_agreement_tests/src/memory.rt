@@ -156,7 +156,7 @@ const ACCESSES: &[Accesses] = &[
             ),
             (
                 0,
-                "i64 i16: x = iconst.i16 -40\nstack_store x t -6\ny = stack_load.i16 ss0 +2\nreturn y",
+                "i64 i16: x = iconst.i16 -40\nstack_store x t -6\ny = stack_load.i16 s +2\nreturn y",
                 Some(65496),
             ),
             (

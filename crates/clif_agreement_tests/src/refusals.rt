@@ -132,7 +132,7 @@ const SCRIPTS: &[&str] = &[
     "x = declare_var i16\ndef_var x n\nreturn n => a value of another type is assigned to var0 at call 5",
     "c = create_block\nreturn n\nswitch_to_block c\njump b n => a branch leads to the entry block at call 7",
     "ensure_inserted_block => stuck",
-    "x = iconst.i32 0\nbr_table x jt0 => a branch leads to no block at call 5",
+    "x = iconst.i32 0\nbr_table x n => a branch leads to no block at call 5",
     "t = create_jump_table n\nx = iconst.i32 0\nbr_table x t => a branch leads to no block at call 6",
     // by an entry that the run doesn't take
     "e = block_call b(n)\nc = create_block\nd = block_call c\nt = create_jump_table d e\nx = iconst.i32 7\nbr_table x t\nswitch_to_block c\nreturn n => a branch leads to the entry block at call 9",

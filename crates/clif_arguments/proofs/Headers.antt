@@ -61,3 +61,7 @@ takes_one_number first old new numbers word number before one is = record {
 -- all words were taken
 pub takes_all_numbers : (first old : Cursor) (numbers : List ℤ) → TakesNumbers first old numbers → words_left old ≡ [] → AreNumbers (words_left first) numbers
 takes_all_numbers first old numbers before none = subst (λ words. AreNumbers words numbers) (sym (before.taken ∙ ap (λ rest. before.words ++ rest) none ∙ append-nil before.words)) before.are
+
+-- two numbers, one for each word
+pub two_numbers : (one two : List ℕ) (a b : ℤ) (numbers : List ℤ) → numbers ≡ a ∷ b ∷ [] → IsNumber one a → IsNumber two b → AreNumbers (one ∷ two ∷ []) numbers
+two_numbers one two a b numbers is first second = subst (AreNumbers (one ∷ two ∷ [])) (sym is) (first, (second, tt))

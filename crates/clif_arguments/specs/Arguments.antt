@@ -15,16 +15,10 @@ use Rattle.clif_calls.specs.declared.table.TableItem.{TableItem}
 use Rattle.clif_calls.specs.declared.table.TableItem.TheVariants as item
 use Rattle.clif_arguments.specs.Header.{IsFunctionName}
 
--- what names stand for: the answer that a given name stands for, and the number of the variable, of the stack slot, of the
--- jump table, of the exception table, of the signature, or of the function that an answer is
+-- what names stand for: the answer that a given name stands for, and the number of the variable that an answer is
 pub record Names : Type 0 where
   pub given : List ℕ → Option Name
   pub variable : Name → ℕ
-  pub slot : Name → ℕ
-  pub jump_table : Name → ℕ
-  pub exception_table : Name → ℕ
-  pub signature : Name → ℕ
-  pub function : Name → ℕ
 
 -- `$P.K`, with the place and the answer in decimal digits
 abbrev pub IsPlaceName : List ℕ → Name → Type 0
@@ -38,34 +32,11 @@ IsAnswer names word name = IsPlaceName word name ⊎ (names.given word ≡ Some 
 abbrev pub IsInst : Names → List ℕ → Name → Type 0
 IsInst names word name = IsAnswer names word name ⊎ ((rest : List ℕ) × (word ≡ codes "@" ++ rest) × IsAnswer names rest name)
 
--- a word stands for this number: as an answer that has it, or as the number in decimal digits behind the prefix where no
--- such name was given
-abbrev pub IsNumbered : List ℕ → (Name → ℕ) → Names → List ℕ → ℕ → Type 0
-IsNumbered prefix number_of names word number = ((name : Name) × IsAnswer names word name × (number_of name ≡ number)) ⊎ ((digits : List ℕ) × (word ≡ prefix ++ digits) × IsDecimal digits number × (names.given word ≡ None))
-
--- the variable of this number: as the answer of a declaration, or as `varN`
+-- a word stands for the variable of this number: as the answer of a declaration, or as `varN` where no such name was given
 abbrev pub IsVariable : Names → List ℕ → ℕ → Type 0
-IsVariable names = IsNumbered (codes "var") names.variable names
-
--- the stack slot of this number: as the answer of the call that made it, or as `ssN`
-abbrev pub IsSlot : Names → List ℕ → ℕ → Type 0
-IsSlot names = IsNumbered (codes "ss") names.slot names
-
--- the jump table of this number: as the answer of the call that made it, or as `jtN`
-abbrev pub IsJumpTable : Names → List ℕ → ℕ → Type 0
-IsJumpTable names = IsNumbered (codes "jt") names.jump_table names
-
--- the exception table of this number: as the answer of the call that made it, or as `extableN`
-abbrev pub IsExceptionTable : Names → List ℕ → ℕ → Type 0
-IsExceptionTable names = IsNumbered (codes "extable") names.exception_table names
-
--- the signature of this number: as the answer of the call that imported it, or as `sigN`
-abbrev pub IsSignatureName : Names → List ℕ → ℕ → Type 0
-IsSignatureName names = IsNumbered (codes "sig") names.signature names
-
--- the function of this number: as the answer of the call that imported it, or as `fnN`
-abbrev pub IsFunctionRef : Names → List ℕ → ℕ → Type 0
-IsFunctionRef names = IsNumbered (codes "fn") names.function names
+IsVariable names word number =
+    ((name : Name) × IsAnswer names word name × (names.variable name ≡ number))
+    ⊎ ((digits : List ℕ) × (word ≡ codes "var" ++ digits) × IsDecimal digits number × (names.given word ≡ None))
 
 -- the words stand for the answers, one for one
 abbrev pub AreAnswers : Names → List (List ℕ) → List Name → Type 0

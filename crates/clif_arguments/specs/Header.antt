@@ -10,9 +10,11 @@ use Rattle.clif_types.specs.declared.extname.UserFuncName.{UserFuncName}
 use Rattle.clif_types.specs.declared.extname.UserFuncName.TheVariants as name
 use Rattle.clif_types.specs.declared.target.PointerWidth.{PointerWidth}
 use Rattle.clif_types.specs.declared.target.PointerWidth.TheVariants.{U64}
+use Rattle.clif_calls.specs.declared.answer.Moves.{Moves}
+use Rattle.clif_calls.specs.declared.answer.Moves.TheVariants as moves
 use Rattle.clif_calls.specs.declared.answer.OutsideAnswer.{OutsideAnswer}
 use Rattle.clif_arguments.specs.declared.header.Header.{Header}
-use Rattle.clif_words.specs.Spelling.{IsDecimal, IsNumber, IsTypeWord, pointer_text}
+use Rattle.clif_words.specs.Spelling.{IsDecimal, IsMagnitude, IsNumber, IsTypeWord, pointer_text}
 
 -- a name by two numbers, as `u0:0`
 abbrev pub IsUserName : List ℕ → UserExternalName → Type 0
@@ -56,33 +58,55 @@ AreNumbers [] [] = Unit {0}
 AreNumbers (word ∷ words) (number ∷ numbers) = IsNumber word number × AreNumbers words numbers
 AreNumbers _ _ = ⊥
 
--- the words behind `answer`: the name of a function, and what its calls return
+-- the words behind `answer`: the name of a function, and what a call of it returns
 abbrev pub IsAnswerLine : List (List ℕ) → OutsideAnswer → Type 0
-IsAnswerLine words answer = (word : List ℕ) × (rest : List (List ℕ)) × (words ≡ word ∷ rest) × IsFunctionName word answer.callee × AreNumbers rest answer.values.items
+IsAnswerLine words answer = (word : List ℕ) × (rest : List (List ℕ)) × (words ≡ word ∷ rest) × IsFunctionName word answer.callee × (answer.item ≡ None) × AreNumbers rest answer.values.items
+
+-- the words behind `throw`: the name of a function, the item of its table to which a call of it goes, and two numbers that it throws
+abbrev pub IsThrowLine : List (List ℕ) → OutsideAnswer → Type 0
+IsThrowLine words answer =
+    (word place first second : List ℕ) × (item : ℕ) × (words ≡ word ∷ place ∷ first ∷ second ∷ []) × IsFunctionName word answer.callee
+    × (answer.item ≡ Some item) × IsMagnitude place item × AreNumbers (first ∷ second ∷ []) answer.values.items
+
+-- the words behind `moves`: what a collector makes of other numbers than 0
+abbrev pub IsMovesLine : List (List ℕ) → Moves → Type 0
+IsMovesLine words (moves.Add distance) = (word : List ℕ) × (words ≡ codes "add" ∷ word ∷ []) × IsNumber word distance
+IsMovesLine words moves.One = words ≡ codes "one" ∷ []
+IsMovesLine words moves.Events = words ≡ codes "events" ∷ []
 
 -- what header lines say
 pub record HeaderSaid : Type 0 where
   pub function : Option NamedSignature
   pub pointer_width : Option PointerWidth
   pub call_conv : Option CallConv
-  -- what outside calls return in a run, in the order of the lines
+  -- how outside calls end in a run, in the order of the lines
   pub answers : List OutsideAnswer
+  -- how a collector moves in a run
+  pub moves : Option Moves
 
 -- no header line
 abbrev pub no_header : HeaderSaid
-no_header = record { function = None; pointer_width = None; call_conv = None; answers = [] }
+no_header = record { function = None; pointer_width = None; call_conv = None; answers = []; moves = None }
 
 -- what the header lines so far said
 abbrev pub header_said : Header → HeaderSaid
-header_said header = record { function = header.function; pointer_width = header.pointer_width; call_conv = header.call_conv; answers = header.answers.items }
+header_said header = record {
+  function = header.function;
+  pointer_width = header.pointer_width;
+  call_conv = header.call_conv;
+  answers = header.answers.items;
+  moves = header.moves;
+}
 
--- the words are a header line, of a kind of which there was none, or one of `answer`
+-- the words are a header line, of a kind of which there was none, or one of `answer` or `throw`
 abbrev pub IsHeader : List (List ℕ) → HeaderSaid → HeaderSaid → Type 0
 IsHeader words old new =
     ((rest : List (List ℕ)) × (function : NamedSignature) × (words ≡ codes "function" ∷ rest) × IsFunction rest function × (old.function ≡ None) × (new ≡ record old { function = Some function }))
     ⊎ (((width : PointerWidth) × (words ≡ codes "pointer" ∷ pointer_text width ∷ []) × (old.pointer_width ≡ None) × (new ≡ record old { pointer_width = Some width }))
     ⊎ (((conv : CallConv) × (words ≡ codes "conv" ∷ call_conv_text conv ∷ []) × (old.call_conv ≡ None) × (new ≡ record old { call_conv = Some conv }))
-    ⊎ ((rest : List (List ℕ)) × (answer : OutsideAnswer) × (words ≡ codes "answer" ∷ rest) × IsAnswerLine rest answer × (new ≡ record old { answers = old.answers ++ answer ∷ [] }))))
+    ⊎ (((rest : List (List ℕ)) × (moves : Moves) × (words ≡ codes "moves" ∷ rest) × IsMovesLine rest moves × (old.moves ≡ None) × (new ≡ record old { moves = Some moves }))
+    ⊎ (((rest : List (List ℕ)) × (answer : OutsideAnswer) × (words ≡ codes "throw" ∷ rest) × IsThrowLine rest answer × (new ≡ record old { answers = old.answers ++ answer ∷ [] }))
+    ⊎ ((rest : List (List ℕ)) × (answer : OutsideAnswer) × (words ≡ codes "answer" ∷ rest) × IsAnswerLine rest answer × (new ≡ record old { answers = old.answers ++ answer ∷ [] }))))))
 
 -- the function's name, `u0:0` where no line says it
 abbrev pub name_in : Option NamedSignature → UserFuncName

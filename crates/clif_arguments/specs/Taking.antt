@@ -3,17 +3,12 @@ use Rattle.std.specs.Prelude.{◌≡◌, ◌++◌, ◌∷◌, ℕ, List}
 use Rattle.clif_calls.specs.declared.call.Name.{Name}
 use Rattle.clif_words.specs.Cursor.{words_left}
 use Rattle.clif_arguments.specs.declared.args.Args.{Args}
-use Rattle.clif_arguments.specs.declared.scope.Kind.{Kind}
 use Rattle.clif_arguments.specs.Arguments.{AreAnswers, IsAnswer, Names}
-use Rattle.clif_arguments.specs.Scope.{names_of, number_of}
+use Rattle.clif_arguments.specs.Scope.{names_of}
 
 -- what names stand for
 abbrev pub names_in : Args → Names
 names_in args = names_of args.scope.now
-
--- the number of the one of this kind that an answer is
-abbrev pub numbers_in : Kind → Args → Name → ℕ
-numbers_in kind args = number_of kind args.scope.now
 
 -- the next word was taken, and it stands for this
 abbrev pub TakesWord : {A : Type 0} → (old new : Args) → (List ℕ → A → Type 0) → A → Type 0

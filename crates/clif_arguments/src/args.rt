@@ -5,12 +5,12 @@ ghost use Rattle.clif_arguments.specs.Arguments.{IsPart};
 
 use crate::header::{function_name, last_signature};
 use crate::refusals::{unknown_name, unknown_type};
-use crate::scope::{Kind, Scope};
+use crate::scope::Scope;
 use clif_calls::{Edge, Name, Passed, SwitchEntry, TableEdge, TableItem};
 use clif_records::Variable;
 use clif_types::{
-    EntityRef, ExceptionTable, ExternalName, FuncRef, IntCC, JumpTable, MemFlagsData, SigRef,
-    Signature, StackSlot, TrapCode, Type, UserFuncName, ValueLabel,
+    EntityRef, ExternalName, IntCC, MemFlagsData, Signature, TrapCode, Type, UserFuncName,
+    ValueLabel,
 };
 use clif_words::bytes::bytes;
 use clif_words::cursor::Cursor;
@@ -33,7 +33,7 @@ pub struct Args<'w, 'a> {
 }
 
 // How many there can be of a kind that is named by number.
-const MOST_OF_A_KIND: usize = 0xffff_ffff;
+const MOST_VARIABLES: usize = 0xffff_ffff;
 
 impl<'w, 'a> Args<'w, 'a> {
     ghost use Rattle.std.specs.Prelude.{IfOk, OnOk};
@@ -41,9 +41,9 @@ impl<'w, 'a> Args<'w, 'a> {
     ghost use Rattle.clif_words.specs.Cursor.{TakesFlags, refused_place, texts, words_left};
     ghost use Rattle.std.specs.Int.NonZero.{non_zero_u8_get};
     ghost use Rattle.clif_words.specs.Spelling.{IsBytes, IsMagnitude, IsNumber, IsTrapCode, IsTypeWord, flag_word, overlap_word};
-    ghost use Rattle.clif_arguments.specs.Arguments.{AreAnswers, AreClosed, AreItems, AreLast, AreLastPassed, ArePassed, AreSwitchCases, IsEdge, IsExceptionTable, IsExternalName, IsFunctionRef, IsInst, IsItem, IsJumpTable, IsLastEdge, IsLastOffset, IsNumbered, IsPassed, IsSignatureName, IsSlot, IsSwitchCase, IsTableEdge, IsVariable};
+    ghost use Rattle.clif_arguments.specs.Arguments.{AreAnswers, AreClosed, AreItems, AreLast, AreLastPassed, ArePassed, AreSwitchCases, IsEdge, IsExternalName, IsInst, IsItem, IsLastEdge, IsLastOffset, IsPassed, IsSwitchCase, IsTableEdge, IsVariable};
     ghost use Rattle.clif_arguments.specs.Header.{IsSignature};
-    ghost use Rattle.clif_arguments.specs.Taking.{TakesAnswer, TakesAnswers, TakesWord, TakesWords, names_in, numbers_in};
+    ghost use Rattle.clif_arguments.specs.Taking.{TakesAnswer, TakesAnswers, TakesWord, TakesWords, names_in};
 
     /// All words of a line after its answers' names, none of them taken.
     pub fn new(words: &'w [&'a str], scope: &'w Scope<'a>) -> Args<'w, 'a>
@@ -109,93 +109,65 @@ impl<'w, 'a> Args<'w, 'a> {
         }
     }
 
-    // The number of one of this kind: of the one that a name or `$P.K` stands for, or the number behind the
-    // prefix, unless that name was given.
-    fn numbered(
-        &mut self,
-        prefix: &str,
-        kind: Kind,
-        expected: Expected,
-    ) -> Result<usize, LineError<'a>>
-        ensures scope { self.new.scope ≡ self.old.scope }
-        ensures ok { IfOk result (TakesWord self.old self.new
-            (IsNumbered prefix.now (numbers_in kind self.old) (names_in self.old))) }
-        ensures bounded { IfOk result (λ number. number < 2 ^ 32 - 1) }
-    {
-        let word = self.words.take(expected)?;
-        let number = match self.scope.answer(word) {
-            Some(name) => self.scope.number(kind, name),
-            None => match number_behind(prefix, word) {
-                Some(number) => number,
-                None => return Err(unknown_name(word, expected)),
-            },
-        };
-        if number < MOST_OF_A_KIND {
-            Ok(number)
-        } else {
-            Err(LineError::wanted(expected))
-        }
-    }
-
     /// A variable: the one that a name or `$P.K` stands for, or `varN`, which is variable N unless that name
     /// was given.
     pub fn variable(&mut self) -> Result<Variable, LineError<'a>>
         ensures scope { self.new.scope ≡ self.old.scope }
         ensures ok { IfOk result (TakesWord self.old self.new (IsVariable (names_in self.old))) }
     {
-        let number = self.numbered("var", Kind::Variable, Expected::Variable)?;
-        Ok(Variable::new(number))
+        let word = self.words.take(Expected::Variable)?;
+        let number = match self.scope.answer(word) {
+            Some(name) => self.scope.variable(name),
+            None => match number_behind("var", word) {
+                Some(number) => number,
+                None => return Err(unknown_name(word, Expected::Variable)),
+            },
+        };
+        if number < MOST_VARIABLES {
+            Ok(Variable::new(number))
+        } else {
+            Err(LineError::wanted(Expected::Variable))
+        }
     }
 
-    /// A stack slot: the one that a name or `$P.K` stands for, or `ssN`, which is slot N unless that name was
-    /// given.
-    pub fn slot(&mut self) -> Result<StackSlot, LineError<'a>>
+    /// A stack slot.
+    pub fn slot(&mut self) -> Result<Name, LineError<'a>>
         ensures scope { self.new.scope ≡ self.old.scope }
-        ensures ok { IfOk result (TakesWord self.old self.new (IsSlot (names_in self.old))) }
+        ensures ok { IfOk result (TakesAnswer self.old self.new) }
     {
-        let number = self.numbered("ss", Kind::StackSlot, Expected::StackSlot)?;
-        Ok(StackSlot::new(number))
+        self.answer(Expected::StackSlot)
     }
 
-    /// A jump table: the one that a name or `$P.K` stands for, or `jtN`, which is table N unless that name was
-    /// given.
-    pub fn jump_table(&mut self) -> Result<JumpTable, LineError<'a>>
+    /// A jump table.
+    pub fn jump_table(&mut self) -> Result<Name, LineError<'a>>
         ensures scope { self.new.scope ≡ self.old.scope }
-        ensures ok { IfOk result (TakesWord self.old self.new (IsJumpTable (names_in self.old))) }
+        ensures ok { IfOk result (TakesAnswer self.old self.new) }
     {
-        let number = self.numbered("jt", Kind::JumpTable, Expected::JumpTable)?;
-        Ok(JumpTable::new(number))
+        self.answer(Expected::JumpTable)
     }
 
-    /// An exception table: the one that a name or `$P.K` stands for, or `extableN`, which is table N unless that name
-    /// was given.
-    pub fn exception_table(&mut self) -> Result<ExceptionTable, LineError<'a>>
+    /// An exception table.
+    pub fn exception_table(&mut self) -> Result<Name, LineError<'a>>
         ensures scope { self.new.scope ≡ self.old.scope }
-        ensures ok { IfOk result (TakesWord self.old self.new
-            (IsExceptionTable (names_in self.old))) }
+        ensures ok { IfOk result (TakesAnswer self.old self.new) }
     {
-        let number = self.numbered("extable", Kind::ExceptionTable, Expected::ExceptionTable)?;
-        Ok(ExceptionTable::new(number))
+        self.answer(Expected::ExceptionTable)
     }
 
-    /// A signature: the one that a name or `$P.K` stands for, or `sigN`, which is signature N unless that name was
-    /// given.
-    pub fn signature(&mut self) -> Result<SigRef, LineError<'a>>
+    /// A signature.
+    pub fn signature(&mut self) -> Result<Name, LineError<'a>>
         ensures scope { self.new.scope ≡ self.old.scope }
-        ensures ok { IfOk result (TakesWord self.old self.new
-            (IsSignatureName (names_in self.old))) }
+        ensures ok { IfOk result (TakesAnswer self.old self.new) }
     {
-        let number = self.numbered("sig", Kind::Signature, Expected::Signature)?;
-        Ok(SigRef::new(number))
+        self.answer(Expected::Signature)
     }
 
-    /// A function: the one that a name or `$P.K` stands for, or `fnN`, which is function N unless that name was given.
-    pub fn function(&mut self) -> Result<FuncRef, LineError<'a>>
+    /// A function.
+    pub fn function(&mut self) -> Result<Name, LineError<'a>>
         ensures scope { self.new.scope ≡ self.old.scope }
-        ensures ok { IfOk result (TakesWord self.old self.new (IsFunctionRef (names_in self.old))) }
+        ensures ok { IfOk result (TakesAnswer self.old self.new) }
     {
-        let number = self.numbered("fn", Kind::Function, Expected::Function)?;
-        Ok(FuncRef::new(number))
+        self.answer(Expected::Function)
     }
 
     /// An edge that `block_call` answered.

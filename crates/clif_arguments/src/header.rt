@@ -2,18 +2,18 @@
 ghost use Rattle.std.specs.Prelude.{◌≡◌, ◌++◌, ◌∷◌, [], ℕ, List, None, Some, IfOk, IfSome, OnOk, codes};
 ghost use Rattle.clif_types.specs.Texts.{call_conv_text};
 ghost use Rattle.clif_words.specs.Cursor.{words_left};
-ghost use Rattle.clif_arguments.specs.Header.{AreNumbers, AreReturned, AreTypes, IsAnswerLine, IsFunction, IsFunctionName, IsSignature, IsUserName, name_in, signature_in};
-ghost use Rattle.clif_words.specs.Spelling.{pointer_text};
+ghost use Rattle.clif_arguments.specs.Header.{AreNumbers, AreReturned, AreTypes, IsAnswerLine, IsFunction, IsFunctionName, IsMovesLine, IsSignature, IsThrowLine, IsUserName, name_in, signature_in};
+ghost use Rattle.clif_words.specs.Spelling.{IsMagnitude, IsNumber, pointer_text};
 
 use crate::refusals::unknown_type;
-use clif_calls::OutsideAnswer;
+use clif_calls::{Moves, OutsideAnswer};
 use clif_types::{
     AbiParam, CallConv, PointerWidth, Signature, TargetFrontendConfig, UserExternalName,
     UserFuncName,
 };
 use clif_words::cursor::Cursor;
 use clif_words::error::{Expected, Fault, LineError};
-use clif_words::number::{number, short_decimal};
+use clif_words::number::{magnitude, number, short_decimal};
 use clif_words::types::{call_conv_named, pointer_width_named};
 use std::alloc::Global;
 use std::mem;
@@ -24,6 +24,7 @@ pub struct Header {
     pointer_width: Option<PointerWidth>,
     call_conv: Option<CallConv>,
     answers: Vec<OutsideAnswer>,
+    moves: Option<Moves>,
 }
 
 // By hand: a derived one is proved anew at each way out of a function that holds such a value.
@@ -34,13 +35,17 @@ impl Drop for Header {
             pointer_width: _,
             call_conv: _,
             answers: _,
+            moves: _,
         } = self;
     }
 }
 
 /// Whether a line that begins with this word is a header line.
 pub fn is_header(word: &str) -> bool {
-    matches!(word, "function" | "pointer" | "conv" | "region" | "answer")
+    matches!(
+        word,
+        "function" | "pointer" | "conv" | "region" | "answer" | "throw" | "moves"
+    )
 }
 
 impl Header {
@@ -54,6 +59,7 @@ impl Header {
             pointer_width: None,
             call_conv: None,
             answers: Vec::new(alloc),
+            moves: None,
         }
     }
 
@@ -72,6 +78,8 @@ impl Header {
             "pointer" => keep(&mut self.pointer_width, pointer_width_of(words)?, head),
             "conv" => keep(&mut self.call_conv, call_conv_of(words)?, head),
             "answer" => Ok(self.answers.push(answer_of(alloc, words)?)?),
+            "throw" => Ok(self.answers.push(throw_of(alloc, words)?)?),
+            "moves" => keep(&mut self.moves, moves_of(words)?, head),
             _ => Err(LineError::Fault(Fault::NotSupported(head))),
         }
     }
@@ -88,7 +96,14 @@ impl Header {
         }
     }
 
-    /// What outside calls return, of those functions of which a line says it, in the order of the lines. It is taken out.
+    /// How a collector moves in a run; `None`, where no line says it: it moves nothing.
+    pub fn moves(&self) -> Option<Moves>
+        ensures { result ≡ (header_said self.now).moves }
+    {
+        self.moves
+    }
+
+    /// How outside calls end in a run, of those functions of which a line says it, in the order of the lines. It is taken out.
     pub fn take_answers(&mut self, alloc: Global) -> Vec<OutsideAnswer>
         ensures answers { result.items ≡ (header_said self.old).answers }
         ensures rest { header_said self.new ≡ record (header_said self.old) { answers = [] } }
@@ -107,6 +122,7 @@ impl Header {
             pointer_width: _,
             call_conv: _,
             answers: _,
+            moves: _,
         } = self;
         match function {
             Some(function) => function,
@@ -129,14 +145,65 @@ fn keep<'a, T: Drop>(kept: &mut Option<T>, said: T, head: &'a str) -> Result<(),
     Ok(())
 }
 
-// The name of a function, and what its calls return.
+// The name of a function, and what a call of it returns.
 fn answer_of<'a>(alloc: Global, words: &mut Cursor<'_, 'a>) -> Result<OutsideAnswer, LineError<'a>>
     ensures { IfOk result (IsAnswerLine (words_left words.old)) }
 {
     let word = words.take(Expected::FunctionName)?;
     let callee = function_name(alloc, word, Expected::FunctionName)?;
     let values = numbers_to_end(alloc, words)?;
-    Ok(OutsideAnswer { callee, values })
+    Ok(OutsideAnswer {
+        callee,
+        item: None,
+        values,
+    })
+}
+
+// The name of a function, the item of a table to which a call of it goes, and what is thrown.
+fn throw_of<'a>(alloc: Global, words: &mut Cursor<'_, 'a>) -> Result<OutsideAnswer, LineError<'a>>
+    ensures { IfOk result (IsThrowLine (words_left words.old)) }
+{
+    let word = words.take(Expected::FunctionName)?;
+    let callee = function_name(alloc, word, Expected::FunctionName)?;
+    let item = item_of(words.take(Expected::ItemNumber)?)?;
+    let first = number_of(words.take(Expected::Number)?)?;
+    let second = number_of(words.take(Expected::Number)?)?;
+    words.end()?;
+    let values = vec![in alloc; first, second]?;
+    Ok(OutsideAnswer {
+        callee,
+        item: Some(item),
+        values,
+    })
+}
+
+// The number of an item.
+fn item_of(word: &str) -> Result<u32, LineError<'_>>
+    ensures { IfOk result (IsMagnitude word.now) }
+{
+    let number = magnitude(word).ok_or(LineError::wanted(Expected::ItemNumber))?;
+    u32::try_from(number).map_err(|_| LineError::wanted(Expected::ItemNumber))
+}
+
+// A number of 64 bits.
+fn number_of(word: &str) -> Result<i64, LineError<'_>>
+    ensures { IfOk result (IsNumber word.now) }
+{
+    number(word).ok_or(LineError::wanted(Expected::Number))
+}
+
+// How a collector moves.
+fn moves_of<'a>(words: &mut Cursor<'_, 'a>) -> Result<Moves, LineError<'a>>
+    ensures { IfOk result (IsMovesLine (words_left words.old)) }
+{
+    let moves = match words.take(Expected::Moves)? {
+        "add" => Moves::Add(number_of(words.take(Expected::Number)?)?),
+        "one" => Moves::One,
+        "events" => Moves::Events,
+        _ => return Err(LineError::wanted(Expected::Moves)),
+    };
+    words.end()?;
+    Ok(moves)
 }
 
 // Numbers that end a line.
@@ -146,10 +213,7 @@ fn numbers_to_end<'a>(alloc: Global, words: &mut Cursor<'_, 'a>) -> Result<Vec<i
     let mut values = Vec::new(alloc);
     while !words.is_empty() {
         let word = words.take(Expected::Number)?;
-        let Some(value) = number(word) else {
-            return Err(LineError::wanted(Expected::Number));
-        };
-        values.push(value)?;
+        values.push(number_of(word)?)?;
     }
     Ok(values)
 }

@@ -1,6 +1,5 @@
 //! What names stand for.
-ghost use Rattle.std.specs.Prelude.{◌≡◌, ◌≤◌, ◌+◌, IfOk, IfSome, vec_len};
-ghost use Rattle.clif_arguments.specs.Given.{number_as, total_of};
+ghost use Rattle.std.specs.Prelude.{◌≡◌, ◌≤◌, IfSome, vec_len};
 ghost use Rattle.clif_arguments.specs.Arguments.{IsPlaceName};
 
 use clif_calls::Name;
@@ -8,108 +7,15 @@ use clif_words::number::decimal;
 use std::alloc::{AllocError, Global};
 use std::collections::BTreeMap;
 
-/// What is named by its number. Each kind is numbered from 0 on, in the order of the calls.
-#[derive(Clone, Copy)]
-pub enum Kind {
-    /// A variable.
-    Variable,
-    /// A stack slot.
-    StackSlot,
-    /// A jump table.
-    JumpTable,
-    /// An exception table.
-    ExceptionTable,
-    /// A signature.
-    Signature,
-    /// A function.
-    Function,
-}
-
-/// What a call answers by number.
-#[derive(Clone, Copy)]
-pub enum Numbered {
-    Variable(usize),
-    StackSlot(usize),
-    JumpTable(usize),
-    ExceptionTable(usize),
-    Signature(usize),
-    Function(usize),
-    Nothing,
-}
-
-/// How many there are of each kind.
-#[derive(Clone, Copy)]
-pub struct Totals {
-    variables: usize,
-    stack_slots: usize,
-    jump_tables: usize,
-    exception_tables: usize,
-    signatures: usize,
-    functions: usize,
-}
-
-/// How many entries of tables a call makes that no name leads to.
-#[derive(Clone, Copy)]
-pub struct Unnamed {
-    /// The jump tables of a switch.
-    pub jump_tables: usize,
-    /// The functions of the C library that a memory helper imports, each with a signature.
-    pub imports: usize,
-}
-
-/// The names that the lines so far gave, and what their calls answered by number.
+/// The names that the lines so far gave, and which variables their calls declared.
 #[derive(Drop)]
 pub struct Scope<'a> {
     names: BTreeMap<&'a str, Name>,
-    // for each call, what it answers by number
-    numbered: Vec<Numbered>,
-    totals: Totals,
-    ghost variables_counted: { totals.variables ≤ vec_len numbered },
-    ghost slots_counted: { totals.stack_slots ≤ vec_len numbered },
-    ghost exceptions_counted: { totals.exception_tables ≤ vec_len numbered },
-}
-
-impl Numbered {
-    // The number, if it is one of this kind.
-    fn number_as(self, kind: Kind) -> Option<usize>
-        ensures { result ≡ number_as kind self }
-    {
-        match (self, kind) {
-            (Numbered::Variable(number), Kind::Variable)
-            | (Numbered::StackSlot(number), Kind::StackSlot)
-            | (Numbered::JumpTable(number), Kind::JumpTable)
-            | (Numbered::ExceptionTable(number), Kind::ExceptionTable)
-            | (Numbered::Signature(number), Kind::Signature)
-            | (Numbered::Function(number), Kind::Function) => Some(number),
-            _ => None,
-        }
-    }
-}
-
-impl Totals {
-    // How many there are of this kind.
-    fn of(self, kind: Kind) -> usize
-        ensures { result ≡ total_of kind self }
-    {
-        match kind {
-            Kind::Variable => self.variables,
-            Kind::StackSlot => self.stack_slots,
-            Kind::JumpTable => self.jump_tables,
-            Kind::ExceptionTable => self.exception_tables,
-            Kind::Signature => self.signatures,
-            Kind::Function => self.functions,
-        }
-    }
-}
-
-// So many more.
-fn more(total: usize, count: usize) -> Result<usize, AllocError>
-    ensures { IfOk result (λ sum. sum ≡ total + count) }
-{
-    match total.checked_add(count) {
-        Some(sum) => Ok(sum),
-        None => Err(AllocError),
-    }
+    // for each call, the number of the variable that it declares, if it declares one
+    declared: Vec<Option<usize>>,
+    // how many variables there are
+    variables: usize,
+    ghost counted: { variables ≤ vec_len declared },
 }
 
 // The answer that `$P.K` names.
@@ -138,26 +44,18 @@ fn may_be_named(byte: u8) -> bool {
 
 impl<'a> Scope<'a> {
     ghost use Rattle.std.specs.Prelude.{[], IfNone, OnOk};
-    ghost use Rattle.clif_arguments.specs.Given.{no_totals};
     ghost use Rattle.clif_arguments.specs.Arguments.{IsAnswer};
-    ghost use Rattle.clif_arguments.specs.Scope.{AddsUnnamed, Counts, Gives, given_in, names_of, number_of};
+    ghost use Rattle.clif_arguments.specs.Scope.{Counts, Gives, given_in, names_of, variable_of};
 
     pub fn new(alloc: Global) -> Scope<'a>
         ensures names { result.names.entries ≡ [] }
-        ensures numbered { result.numbered.items ≡ [] }
-        ensures totals { result.totals ≡ no_totals }
+        ensures declared { result.declared.items ≡ [] }
+        ensures variables { result.variables ≡ 0 }
     {
         Scope {
             names: BTreeMap::new(alloc),
-            numbered: Vec::new(alloc),
-            totals: Totals {
-                variables: 0,
-                stack_slots: 0,
-                jump_tables: 0,
-                exception_tables: 0,
-                signatures: 0,
-                functions: 0,
-            },
+            declared: Vec::new(alloc),
+            variables: 0,
         }
     }
 
@@ -172,15 +70,14 @@ impl<'a> Scope<'a> {
         }
     }
 
-    /// The number of the one of this kind that is this answer. Where it is none, the number that the next
-    /// one gets, which isn't there.
-    pub fn number(&self, kind: Kind, name: Name) -> usize
-        ensures { result ≡ number_of kind self.now name }
+    /// The number of the variable that is this answer. Where it is none, the number that the next variable gets, which isn't
+    /// there.
+    pub fn variable(&self, name: Name) -> usize
+        ensures { result ≡ variable_of self.now name }
     {
-        let next = self.totals.of(kind);
-        match self.numbered.get(name.place) {
-            Some(numbered) if name.answer == 0 => numbered.number_as(kind).unwrap_or(next),
-            _ => next,
+        match self.declared.get(name.place) {
+            Some(Some(number)) if name.answer == 0 => *number,
+            _ => self.variables,
         }
     }
 
@@ -192,55 +89,15 @@ impl<'a> Scope<'a> {
         Ok(())
     }
 
-    /// Entries more were made, which no name leads to. There is no memory for the calls of as many as have no number.
-    pub fn add_unnamed(&mut self, made: Unnamed) -> Result<(), AllocError>
-        ensures { OnOk result (AddsUnnamed made self.old self.new) }
+    /// One more call was read, which declares a variable or doesn't.
+    pub fn count(&mut self, declares: bool) -> Result<(), AllocError>
+        ensures { OnOk result (Counts declares self.old self.new) }
     {
-        let jump_tables = more(self.totals.jump_tables, made.jump_tables)?;
-        let signatures = more(self.totals.signatures, made.imports)?;
-        let functions = more(self.totals.functions, made.imports)?;
-        self.totals.jump_tables = jump_tables;
-        self.totals.signatures = signatures;
-        self.totals.functions = functions;
-        Ok(())
-    }
-
-    /// One more call was read, which answers one of this kind or none.
-    pub fn count(&mut self, answered: Option<Kind>) -> Result<(), AllocError>
-        ensures { OnOk result (Counts answered self.old self.new) }
-    {
-        match answered {
-            Some(Kind::Variable) => {
-                let number = self.totals.variables;
-                self.numbered.push(Numbered::Variable(number))?;
-                self.totals.variables += 1;
-            }
-            Some(Kind::StackSlot) => {
-                let number = self.totals.stack_slots;
-                self.numbered.push(Numbered::StackSlot(number))?;
-                self.totals.stack_slots += 1;
-            }
-            Some(Kind::JumpTable) => {
-                let number = self.totals.jump_tables;
-                self.totals.jump_tables = more(number, 1)?;
-                self.numbered.push(Numbered::JumpTable(number))?;
-            }
-            Some(Kind::ExceptionTable) => {
-                let number = self.totals.exception_tables;
-                self.numbered.push(Numbered::ExceptionTable(number))?;
-                self.totals.exception_tables += 1;
-            }
-            Some(Kind::Signature) => {
-                let number = self.totals.signatures;
-                self.totals.signatures = more(number, 1)?;
-                self.numbered.push(Numbered::Signature(number))?;
-            }
-            Some(Kind::Function) => {
-                let number = self.totals.functions;
-                self.totals.functions = more(number, 1)?;
-                self.numbered.push(Numbered::Function(number))?;
-            }
-            None => self.numbered.push(Numbered::Nothing)?,
+        if declares {
+            self.declared.push(Some(self.variables))?;
+            self.variables += 1;
+        } else {
+            self.declared.push(None)?;
         }
         Ok(())
     }

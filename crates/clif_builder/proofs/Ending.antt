@@ -1,20 +1,19 @@
 -- What `finalize` answers, from what its parts answer; and where nothing is recorded, it is what the blocks lack.
 use Rattle.std.proofs.Common.{◌≡◌, ◌≢◌, ℕ, Bool, true, false, List, [], ◌∷◌, length, refl, sym, subst}
-use Rattle.std.specs.Prelude.{Result, Ok, Err, None, OnOk, Some, is_err}
+use Rattle.std.specs.Prelude.{Result, Ok, Err, Option, None, OnOk, Some, is_err}
 use Rattle.clif_ir.specs.Body.{Body, resolved}
 use Rattle.clif_meaning.specs.Acceptance as refused
 use Rattle.clif_meaning.specs.Acceptance.{Refusal}
 use Rattle.clif_meaning.specs.Request.{AnsweredCall}
 use Rattle.clif_safepoints.specs.Contexts.{HasTrackedContext, IsFirstTracked}
-use Rattle.clif_records.specs.Tracking.{Tracked, recorded_of}
+use Rattle.clif_records.specs.Tracking.{recorded_of}
 use Rattle.clif_ssa.proofs.Ordering.{none_contained}
 use Rattle.clif_builder.specs.declared.builder.FunctionBuilder.{FunctionBuilder}
 use Rattle.clif_builder.specs.declared.error.FinalizeError.{FinalizeError}
 use Rattle.clif_builder.specs.declared.error.FinalizeError.TheVariants.{Failed, Full, Memory, TrackedContext, Unfilled, Unsealed}
 use Rattle.clif_builder.specs.Builder.{answer_of, first_fault, verdict_of}
-use Rattle.clif_builder.specs.Ending.{AnswersAfter, Ends, EndsWith, TellsContext, TellsSpill, TellsSpilling, recorded_in}
+use Rattle.clif_builder.specs.Ending.{AnswersAfter, Ends, EndsByLedger, EndsWith, TellsContext, TellsSpill, TellsSpilling, recorded_in}
 use Rattle.clif_builder.specs.Ledger.{RefusalAgrees}
-use Rattle.clif_builder.specs.Tracking.{IsUntracked}
 
 -- THE CONTEXTS ----------------------------------------------------------------------------------------------------------
 
@@ -98,12 +97,6 @@ as_lacking (Ok u) f (Err (Unfilled block)) never = absurd never
 as_lacking (Ok u) f (Err Full) some = absurd (some refl)
 as_lacking (Ok u) f (Err Failed) never = absurd never
 
-pub ends_untracked : (b : FunctionBuilder) (answer : Result (Unit {0}) FinalizeError) → IsUntracked b.ctx.now → Ends b answer
-    → answer ≡ verdict_of b.failed b.ctx.now (length b.func.now.blocks)
-ends_untracked b answer none ends =
-    let verdict : Result (Unit {0}) FinalizeError = verdict_of b.failed b.ctx.now (length b.func.now.blocks) in
-    as_lacking verdict b.func.now answer (subst (λ (t : Tracked). EndsWith verdict b.func.now (recorded_of t) answer) none ends)
-
 -- WHATEVER IS RECORDED --------------------------------------------------------------------------------------------------
 
 -- what holds where the blocks lack nothing holds of an answer without error
@@ -129,7 +122,21 @@ lack_is_told : (b : FunctionBuilder) (answer : Result (Unit {0}) FinalizeError) 
 lack_is_told b answer lack ends is =
     subst (λ (verdict : Result (Unit {0}) FinalizeError). EndsWith verdict b.func.now (recorded_of b.ctx.now.ssa.tracking) answer) is ends
 
-pub refusal_is_told : (b : FunctionBuilder) (calls : List AnsweredCall) (answer : Result (Unit {0}) FinalizeError) (refusal : Refusal) → Ends b answer
+refusal_is_told : (b : FunctionBuilder) (calls : List AnsweredCall) (answer : Result (Unit {0}) FinalizeError) (refusal : Refusal) → Ends b answer
     → RefusalAgrees calls (Some refusal) (verdict_of b.failed b.ctx.now (length b.func.now.blocks)) → RefusalAgrees calls (Some refusal) answer
 refusal_is_told b calls answer (refused.Unsealed name) ends told = (told.0, told.1, lack_is_told b answer (Unsealed told.0) ends told.2)
 refusal_is_told b calls answer (refused.Unfilled name) ends told = (told.0, told.1, lack_is_told b answer (Unfilled told.0) ends told.2)
+
+-- and by what the ledger refuses
+pub ends_by_ledger : (b : FunctionBuilder) (calls : List AnsweredCall) (told : Option Refusal) (answer : Result (Unit {0}) FinalizeError) → Ends b answer
+    → RefusalAgrees calls told (verdict_of b.failed b.ctx.now (length b.func.now.blocks)) → EndsByLedger calls told b.func.now (recorded_in b) answer
+ends_by_ledger b calls None answer ends fine =
+    subst (λ (verdict : Result (Unit {0}) FinalizeError). EndsWith verdict b.func.now (recorded_in b) answer) fine ends
+ends_by_ledger b calls (Some refusal) answer ends told = refusal_is_told b calls answer refusal ends told
+
+-- where nothing is recorded, the ledger's refusal is the answer
+pub refused_untracked : (calls : List AnsweredCall) (told : Option Refusal) (f : Body) (recorded : List ℕ) (answer : Result (Unit {0}) FinalizeError) → recorded ≡ []
+    → EndsByLedger calls told f recorded answer → RefusalAgrees calls told answer
+refused_untracked calls None f recorded answer none ends =
+    as_lacking (Ok tt) f answer (subst (λ (values : List ℕ). TellsContext f values answer) none ends)
+refused_untracked calls (Some refusal) f recorded answer none ends = ends

@@ -124,7 +124,7 @@ entry_agrees calls f c p entry number agrees is =
     is ∙ sym (ap (λ (tables : TableLists). count_for tables entry) agrees.tables ∙ count_aside f.tables entry) in
     concluded calls (made entry number) g c p
     (agrees-kept calls (made entry number) between new g c c p p (AnEntry entry (count_for ledger.tables entry) ∷ []) is_tabled refl refl refl refl is_tabled.current is_tabled.variables
-    (λ d. refl) (λ d. refl) (λ d. refl) (tracks_still calls (made entry number) c tt is_tabled.tracks) is_tabled.structured
+    (λ d. refl) (λ d. refl) (λ d. refl) (tracks_still calls (made entry number) g.values c tt is_tabled.tracks) is_tabled.structured
     (answers-one new g (length calls) (AnEntry entry (count_for ledger.tables entry)) number numbered tt))
 
 pub entry_stands : (declared : SignatureShape) (calls : List AnsweredCall) (f : Body) (c : ContextState) (p : Option ℕ) (entry : TableEntry) (number : ℕ) → IsConsistent f → StandsIn declared calls f c p

@@ -8,9 +8,7 @@ use Rattle.clif_types.specs.declared.target.PointerWidth.{PointerWidth}
 use Rattle.clif_ir.specs.Body.{Body}
 use Rattle.clif_ir.specs.Consistent.{IsConsistent}
 use Rattle.clif_records.specs.declared.tables.Pending.{Pending}
-use Rattle.clif_records.specs.declared.tables.Sealed.{Sealed}
-use Rattle.clif_records.specs.declared.tables.Sealed.TheVariants.{No, Yes}
-use Rattle.clif_records.specs.Tables.{is_yes, pending_of}
+use Rattle.clif_records.specs.Tables.{No, Sealed, Yes, is_yes, pending_of}
 use Rattle.clif_ssa.specs.Ssa.{sealed_of}
 use Rattle.clif_meaning.specs.Name.{Name}
 use Rattle.clif_meaning.specs.Ledger.{BlockState, is_filled, state_has}
@@ -171,6 +169,7 @@ pub as_found : (declared : SignatureShape) (calls : List AnsweredCall) (b : Func
     → IsFinished calls b.func.now b.ctx.now.ssa → AsFound declared width calls b
 as_found declared calls b width stands consistent finished = record {
   moving = moving declared calls b width stands consistent finished;
+  recorded = stands.ledger.tracks.exactly;
   parameters = no_parameters calls b.func.now b.ctx.now.ssa stands.carries finished.none_waits;
   edges_match = λ typed. standing_edges declared calls b.func.now b.ctx.now b.position stands finished.none_waits typed;
   well_placed = λ premises. well_placed calls b.func.now b.ctx.now.ssa consistent (all premises) premises.given_before;

@@ -98,7 +98,7 @@ laid calls f c p block after b a agrees names_block names_after =
     let is_laid = laid-agrees calls ledger f c p b a between.layout agrees
     (after-same ledger block after b a ledger.layout f.layout (λ j x named. same-block calls ledger numbered j a x after named at_after) at_block agrees.layout) in
     concluded calls call g c p
-    (agrees-kept calls call between new g c c p p [] is_laid refl refl refl refl is_laid.current is_laid.variables (λ d. refl) (λ d. refl) (λ d. refl) (tracks_still calls call c tt is_laid.tracks) is_laid.structured
+    (agrees-kept calls call between new g c c p p [] is_laid refl refl refl refl is_laid.current is_laid.variables (λ d. refl) (λ d. refl) (λ d. refl) (tracks_still calls call g.values c tt is_laid.tracks) is_laid.structured
     (answers-none new g (length calls)))
 
 -- what the construction names exists in it

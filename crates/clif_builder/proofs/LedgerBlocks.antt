@@ -29,9 +29,10 @@ use Rattle.clif_builder.proofs.LedgerLists.{get-front, get-last, get-push, if-ye
 use Rattle.clif_builder.proofs.LedgerNames.{name-number, named-block, state-entries}
 use Rattle.clif_builder.proofs.LedgerKept.{answer-still, Extends, Keeps, extends-constructs, keeps-block, keeps-itself, keeps-of, answers-after, places-after, answers-none, answers-one, concluded, types-kept}
 use Rattle.clif_builder.proofs.LedgerMade.{block-exists, changed-names, numbers-kept}
-use Rattle.clif_builder.proofs.Placed.{in_order, are_listed, listed_structured, listed_types, sealed_alone, sealed_branches, sealed_layout, sealed_status}
+use Rattle.clif_builder.proofs.Placed.{in_order, are_listed, listed_structured, listed_types, sealed_alone, sealed_branches, sealed_layout, sealed_status, records_exist}
 use Rattle.clif_builder.proofs.Touching.{agree_same, are_types}
-use Rattle.clif_builder.proofs.Tracks.{tracks_on, tracks_still, untracked_made, untracked_same}
+use Rattle.clif_builder.specs.Recorded.{IsParameterAmong}
+use Rattle.clif_builder.proofs.Tracks.{keeps_made, keeps_same, tracks_on, tracks_still}
 
 -- a block that doesn't exist has no parameters
 past_params : (nodes : List BlockNode) (b : ℕ) → length nodes ≤ b → (slice_index_or nodes b empty_block).params ≡ []
@@ -73,7 +74,7 @@ block-kept calls call f g c d k s was cold sealed leads status =
 pub agrees-kept : (calls : List AnsweredCall) (call : AnsweredCall) (old new : Ledger) (f : Body) (c d : ContextState) (p q : Option ℕ) (answered : List Answered)
     (agrees : LedgerAgrees calls old f c p) → new.answers ≡ old.answers ++ answered ∷ [] → new.blocks ≡ old.blocks → new.layout ≡ old.layout → new.tables ≡ old.tables
     → option_map Some new.current ≡ option_map (block_name old) q → VariablesAgree new.variables d
-    → ((b : ℕ) → is_yes (sealed_of d.ssa b) ≡ is_yes (sealed_of c.ssa b)) → SamePredecessors c.ssa d.ssa → SameStatus c d → TracksAgree (calls ++ call ∷ []) d → IsStructured agrees.own f d
+    → ((b : ℕ) → is_yes (sealed_of d.ssa b) ≡ is_yes (sealed_of c.ssa b)) → SamePredecessors c.ssa d.ssa → SameStatus c d → TracksAgree (calls ++ call ∷ []) f.values d → IsStructured agrees.own f d
     → AnswersAgree new f (length calls) answered call.numbers → LedgerAgrees (calls ++ call ∷ []) new f d q
 agrees-kept calls call old new f c d p q answered agrees answers blocks layout tables current variables sealed leads status tracks structured fresh =
     record {
@@ -120,7 +121,7 @@ pub agrees-switched : (calls : List AnsweredCall) (ledger : Ledger) (f : Body) (
 agrees-switched calls ledger f c p name block agrees named =
     let call : AnsweredCall = record { request = SwitchToBlock name; numbers = [] } in
     let new : Ledger = ledger_with ledger (SwitchToBlock name) in
-    agrees-kept calls call ledger new f c c p (Some block) [] agrees refl refl refl refl (ap Some (sym named)) agrees.variables (λ b. refl) (λ b. refl) (λ b. refl) (tracks_still calls call c tt agrees.tracks) agrees.structured
+    agrees-kept calls call ledger new f c c p (Some block) [] agrees refl refl refl refl (ap Some (sym named)) agrees.variables (λ b. refl) (λ b. refl) (λ b. refl) (tracks_still calls call f.values c tt agrees.tracks) agrees.structured
     (answers-none new f (length calls))
 
 pub switched : (calls : List AnsweredCall) (f : Body) (c : ContextState) (p : Option ℕ) (name : Name) (block : ℕ)
@@ -148,7 +149,9 @@ agrees-created calls ledger f g c d p block agrees function number records seale
           ∙ ap (λ (h : Body). map (block_name (ledger_with ledger CreateBlock)) h.layout) (sym function);
       variables = agree_same ledger.variables c d variables agrees.variables;
       tables = agrees.tables ∙ ap (λ (h : Body). tables_of_calls h.tables) (sym function);
-      tracks = tracks_on calls _ c d tt (untracked_same c d tracking) agrees.tracks;
+      tracks =
+          tracks_on calls _ f.values c g.values d tt
+          (keeps_same f.values g.values c d (λ v is. subst (λ (h : Body). IsParameterAmong h.values v) (sym function) is) (λ x b. ap (λ (m : RecordMap). record_at m x b) records) tracking) agrees.tracks;
       own = agrees.own;
       structured = λ types are.
           let own : Own = agrees.own in
@@ -329,7 +332,11 @@ module _ (calls : List AnsweredCall) (ledger : Ledger) (f g : Body) (c d : Conte
         layout = named-more (block_name ledger) (block_name new) ledger.layout f.layout names agrees.layout ∙ ap (map (block_name new)) (sym layout);
         variables = agree_same ledger.variables c d variables agrees.variables;
         tables = agrees.tables ∙ sym extends.tables;
-        tracks = tracks_on calls call c d tt (untracked_made (length f.values) c d sealing.tracks) agrees.tracks;
+        tracks =
+            tracks_on calls call f.values c g.values d tt
+            (keeps_made f.values f.values g.values f c d refl extends.parameters sealing.stay (records_exist agrees.own f c agrees.structured)
+            sealing.tracks sealing.makes)
+            agrees.tracks;
         own = agrees.own;
         structured = structured;
         callers_types = λ k t there.

@@ -26,9 +26,9 @@ use Rattle.clif_builder.proofs.LedgerLists.{if-yes, if-no, map-some, named-more,
 use Rattle.clif_builder.proofs.LedgerNames.{IsNumbered, name-number}
 use Rattle.clif_builder.proofs.LedgerKept.{answers-kept, keeps-itself}
 use Rattle.clif_builder.proofs.LedgerMade.{block-exists}
-use Rattle.clif_builder.proofs.LedgerLeads.{LeadTo, LedLedger, blocks-along, goes, goes-to, leads-along, led, led-block, unheard}
+use Rattle.clif_builder.proofs.LedgerLeads.{LeadTo, LedLedger, blocks-along, goes, goes-to, leads-along, led, led-block, records-along, unheard}
 use Rattle.clif_builder.proofs.Touching.{agree_same}
-use Rattle.clif_builder.proofs.Tracks.{untracked_same, tracks_same}
+use Rattle.clif_builder.proofs.Tracks.{tracks_same}
 
 -- `calls` ends with the call that makes the branch; the ledger `old` and the context `c` have all of it but its edges
 module _ (calls : List AnsweredCall) (old new : Ledger) (g : Body) (c d : ContextState) (p : Option ℕ) (branch : Name) (inst : ℕ) (edges : List (Edge Name Name)) (made : List BlockCall)
@@ -165,7 +165,7 @@ module _ (calls : List AnsweredCall) (old new : Ledger) (g : Body) (c d : Contex
         layout = ap (map Some) ledger.layout ∙ named-more (block_name old) (block_name new) old.layout g.layout names agrees.layout;
         variables = agree_same new.variables c d variables (subst (λ (states : List VariableState). VariablesAgree states c) (sym ledger.variables) agrees.variables);
         tables = ledger.tables ∙ agrees.tables;
-        tracks = tracks_same calls c d (untracked_same c d declared.tracking) agrees.tracks;
+        tracks = tracks_same calls g.values c d (records-along declared.told c.ssa d.ssa inst declared.along) declared.tracking agrees.tracks;
         own = mine;
         structured = structured;
         callers_types = λ k t there.

@@ -53,7 +53,7 @@ use Rattle.clif_builder.proofs.LedgerLeads.{LedLedger, lead-still, lead-to, led-
 use Rattle.clif_builder.proofs.LedgerBranched.{agrees-led}
 use Rattle.clif_builder.proofs.Placed.{in_order, branch_exists}
 use Rattle.clif_builder.proofs.Touching.{agree_same, are_types}
-use Rattle.clif_builder.proofs.Tracks.{untracked_ssa}
+use Rattle.clif_builder.proofs.Tracks.{keeps_ssa}
 
 -- what the caller made, with one more instruction
 pub appended-structured : (place : ℕ) (types : VariableTypes) (own : Own) (f : Body) (s : SsaState) (block : ℕ) (shape : InstructionData) (results : List «Type») → IsConsistent f → block < length f.blocks
@@ -85,7 +85,7 @@ appends-make place f g c d block shape types status order consistent exists func
       layout = made.layout;
       sealed = λ b. ap (λ (s : SsaState). is_yes (sealed_of s b)) ssa;
       predecessors = λ b. ap (λ (s : SsaState). predecessors_of s b) ssa;
-      untracked = untracked_ssa c d ssa;
+      tracks = keeps_ssa f.values g.values c d extends.parameters ssa;
       own = with_own order.own block (length (inserted_in f block).insts) shape;
       structured = appended-is-structured _ f g c d block shape types consistent exists function ssa variables order.own order.structured;
       callers = λ b. refl;

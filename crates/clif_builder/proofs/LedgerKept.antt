@@ -30,6 +30,8 @@ use Rattle.clif_ssa.specs.Ssa.{step_values, with_steps, with_zero, zero_value, z
 use Rattle.clif_simulation.proofs.Places.{mapped_count, mapped_from, range_at, range_count}
 use Rattle.clif_builder.specs.Ledger.{AnswerAgrees, HaveTypes, ResultsFollow, AnswersAgree, LedgerAgrees, block_name, value_type, ledger_of, tables_of_calls}
 use Rattle.clif_builder.specs.Context.{ContextState}
+use Rattle.clif_builder.specs.Recorded.{IsParameterAmong}
+use Rattle.clif_builder.proofs.BlockValues.{StayParameters, parameters_constructed, parameters_front, parameters_set}
 use Rattle.clif_builder.proofs.LedgerLists.{fold-push, get-front, get-push, map-some, some-is, and-then-some, if-yes, numbered-more}
 
 -- the ledger with one more call
@@ -55,6 +57,7 @@ pub record Keeps (f g : Body) : Type 0 where
 
 -- it has as many blocks, too, and the same ones are cold
 pub record Extends (f g : Body) : Type 0 where
+  pub parameters : StayParameters f.values g.values
   pub values : (v : ℕ) (ty : «Type») → value_type f v ≡ Some ty → value_type g v ≡ Some ty
   pub insts : (i : ℕ) (node : InstNode) → slice_get f.insts i ≡ Some node → KeepsInst g i node
   pub block_count : length g.blocks ≡ length f.blocks
@@ -90,6 +93,7 @@ branch-kept f g keeps i below =
 pub extends-constructs : (f g : Body) → OnlyConstructs f g → Extends f g
 extends-constructs f g constructs =
     record {
+      parameters = parameters_constructed f g constructs;
       values = λ v ty is.
           let node = map-some (λ (n : ValueNode). n.ty) (slice_get f.values v) ty is in
           let below : v < length f.values = slice_get_within f.values v node.0 node.1 in
@@ -125,6 +129,7 @@ pub record Continues (f g : Body) : Type 0 where
 pub Extends-same : (f g : Body) → g ≡ f → Extends f g
 Extends-same f g same =
     record {
+      parameters = λ v is. subst (λ (h : Body). IsParameterAmong h.values v) (sym same) is;
       values = λ v ty is. ap (λ (h : Body). value_type h v) same ∙ is;
       insts = λ i node is. keeps-node g i node (ap (λ (h : Body). slice_get h.insts i) same ∙ is);
       block_count = ap (λ (h : Body). length h.blocks) same;
@@ -135,6 +140,7 @@ Extends-same f g same =
 pub Extends-then : (f g h : Body) → Extends f g → Extends g h → Extends f h
 Extends-then f g h first next =
     record {
+      parameters = λ v is. next.parameters v (first.parameters v is);
       values = λ v ty is. next.values v ty (first.values v ty is);
       insts = λ i node is.
           let one = first.insts i node is in
@@ -206,7 +212,7 @@ Extends-inserted f b = by (stands_in b f.layout)
   where
     by : (test : Bool) → Extends f (if test then f else with_layout f b)
     by true = Extends-same f f refl
-    by false = record { values = λ v ty is. is; insts = λ i node is. keeps-node (with_layout f b) i node is; block_count = refl; cold = λ x. refl; tables = refl }
+    by false = record { parameters = λ v is. is; values = λ v ty is. is; insts = λ i node is. keeps-node (with_layout f b) i node is; block_count = refl; cold = λ x. refl; tables = refl }
 
 pub home-inserted : (f : Body) (b v h : ℕ) → param_home (inserted_in f b) v ≡ Some h → param_home f v ≡ Some h
 home-inserted f b v h = by (stands_in b f.layout)
@@ -250,6 +256,7 @@ inserted-twice f b there = if-yes (stands_in b f.layout) f (with_layout f b) the
 pub Extends-param : (f : Body) (b : ℕ) (ty : «Type») → Extends f (with_param f b ty)
 Extends-param f b ty =
     record {
+      parameters = parameters_front f.values _;
       values = λ v t is. type-front f.values _ v t is;
       insts = λ i node is. keeps-node (with_param f b ty) i node is;
       block_count = length-set f.blocks b _;
@@ -265,6 +272,7 @@ pub Continues-inst : (f : Body) (b : ℕ) (at : InsertAt) (shape : InstructionDa
 Continues-inst f b at shape types loc =
     record {
       extends = record {
+        parameters = parameters_front f.values _;
         values = λ v t is. type-front f.values _ v t is;
         insts = λ i node is. keeps-node (with_inst f b at shape types loc) i node (get-front f.insts _ i node is);
         block_count = length-set f.blocks b _;
@@ -285,6 +293,7 @@ Continues-steps : (f : Body) (b : ℕ) (steps : List ZeroStep) → Continues f (
 Continues-steps f b steps =
     record {
       extends = record {
+        parameters = parameters_front f.values _;
         values = λ v t is. type-front f.values _ v t is;
         insts = λ i node is. keeps-node (with_steps f b steps) i node (get-front f.insts _ i node is);
         block_count = length-set f.blocks b _;
@@ -300,6 +309,7 @@ pub Continues-alias : (f : Body) (v original : ℕ) → Continues f (with_alias 
 Continues-alias f v original =
     record {
       extends = record {
+        parameters = parameters_set f.values v _ (resolved f original);
         values = λ w ty is. type-set f.values v _ (Alias (resolved f original)) w ∙ is;
         insts = λ i node is. keeps-node (with_alias f v original) i node is;
         block_count = length-set f.blocks _ _;
@@ -315,6 +325,7 @@ Continues-pooled : (f : Body) (ty : «Type») → Continues f (with_pooled f ty)
 Continues-pooled f ty =
     record {
       extends = record {
+        parameters = λ v is. is;
         values = λ v t is. is;
         insts = λ i node is. keeps-node (with_pooled f ty) i node is;
         block_count = refl;

@@ -12,7 +12,7 @@ use Rattle.clif_meaning.specs.Name.{Name, same_name}
 use Rattle.clif_meaning.specs.Instruction.{Edge}
 use Rattle.clif_meaning.specs.Request.{AnsweredCall, number_of}
 use Rattle.clif_meaning.specs.Ledger.{BlockState, Ledger, with_predecessor}
-use Rattle.clif_ssa.specs.Ssa.{SsaState, predecessors_of, Declares, SameBlocks}
+use Rattle.clif_ssa.specs.Ssa.{SsaState, predecessors_of, Declares, SameBlocks, SameRecords}
 use Rattle.clif_ssa.proofs.Ordering.{contains_first, contains_more}
 use Rattle.clif_simulation.specs.Carries.{DeclaredAlong}
 use Rattle.clif_builder.specs.Ledger.{NamesEdges, block_name, ledger_of}
@@ -61,6 +61,11 @@ leads-along (x ∷ blocks) s t inst along once b =
 pub blocks-along : (blocks : List ℕ) (s t : SsaState) (inst : ℕ) → DeclaredAlong s inst blocks t → SameBlocks s t
 blocks-along [] s t inst along = along.1
 blocks-along (x ∷ blocks) s t inst along = λ b. blocks-along blocks along.0 t inst along.4 b ∙ along.2 b
+
+-- each record is as before
+pub records-along : (blocks : List ℕ) (s t : SsaState) (inst : ℕ) → DeclaredAlong s inst blocks t → SameRecords s t
+records-along [] s t inst along = along.0
+records-along (x ∷ blocks) s t inst along = λ v b. records-along blocks along.0 t inst along.4 v b ∙ along.1 v b
 
 -- THE LEDGER ------------------------------------------------------------------------------------------------------
 

@@ -10,7 +10,6 @@ use Rattle.clif_ir.specs.Changes as body
 use Rattle.clif_instructions.specs.Members.{stands_in}
 use Rattle.clif_meaning.specs.Name.{Name, same_name}
 use Rattle.clif_meaning.specs.Request.{AnsweredCall, number_of}
-use Rattle.clif_meaning.specs.Tracked.{AsksForNoMaps}
 use Rattle.clif_meaning.specs.Ledger.{ABlock, Answered, BlockState, Ledger, with_state, with_layout, with_begun, with_begun_at, is_inserted}
 use Rattle.clif_meaning.proofs.CallLists.{kept}
 use Rattle.clif_ssa.specs.Own.{Own}
@@ -25,8 +24,7 @@ use Rattle.clif_builder.specs.Ledger.{AloneUnlessBegun, AnswersAgree, BlockAgree
 use Rattle.clif_builder.proofs.LedgerLists.{if-yes, if-no, named-more, numbered-more, one-named-more, map-some}
 use Rattle.clif_builder.proofs.LedgerNames.{IsNumbered, name-number, block-inserted, state-names, state-entries}
 use Rattle.clif_builder.proofs.LedgerKept.{answer-still, Extends, keeps-of, answers-after, places-after, stands-inserted, stands-still, types-kept}
-use Rattle.clif_builder.proofs.Tracks.{tracks_on}
-use Rattle.clif_builder.specs.Tracking.{StaysUntracked}
+use Rattle.clif_builder.proofs.Tracks.{KeepsTracks, TracksNothingNew, tracks_on}
 
 -- a change of a block's state leaves what it is, and has it agree with another status
 pub record ChangeAgrees (change : BlockState → BlockState) (old new : BlockStatus) : Type 0 where
@@ -56,7 +54,7 @@ pub record Makes (mine : Own) (f : Body) (c : ContextState) (g : Body) (d : Cont
   pub callers : (b : ℕ) → own.params b ≡ mine.params b
   pub callers_alone : (b : ℕ) → AloneUnlessBegun own g d b
   pub branches : (b branch : ℕ) → Contains (predecessors_of d.ssa b) branch → IsEnded g d (branch_block g branch)
-  pub untracked : StaysUntracked c d
+  pub tracks : KeepsTracks f.values c g.values d
 
 -- what was begun or ended is so when something was made in a block
 pub begun-still : (f g : Body) (c d : ContextState) (block : ℕ) (status : BlockStatus) → g.layout ≡ (inserted_in f block).layout → SetsStatus c d block status → status ≢ Empty
@@ -179,7 +177,7 @@ layout-after calls old new f block name numbered same named names =
         ∙ sym (map_push (block_name new) f.layout block)
 
 pub agrees-made : (calls : List AnsweredCall) (call : AnsweredCall) (old new : Ledger) (f g : Body) (c d : ContextState) (p : Option ℕ) (block : ℕ) (name : Name) (change : BlockState → BlockState) (status : BlockStatus) (answered : List Answered)
-    (agrees : LedgerAgrees calls old f c p) → AsksForNoMaps call.request → block_name old block ≡ Some name
+    (agrees : LedgerAgrees calls old f c p) → TracksNothingNew call.request → block_name old block ≡ Some name
     → new.answers ≡ old.answers ++ answered ∷ [] → MadeLedger old new name change → VariablesAgree new.variables d
     → ChangeAgrees change (status_of c block) status → SetsStatus c d block status → Makes agrees.own f c g d block
     → AnswersAgree new g (length calls) answered call.numbers → LedgerAgrees (calls ++ call ∷ []) new g d p
@@ -195,7 +193,7 @@ agrees-made calls call old new f g c d p block name change status answered agree
       layout = ap (map Some) ledger.layout ∙ layout-after calls old new f block name numbered agrees.layout named names ∙ ap (map (block_name new)) (sym makes.layout);
       variables = variables;
       tables = ledger.tables ∙ agrees.tables ∙ sym makes.extends.tables;
-      tracks = tracks_on calls call c d asks makes.untracked agrees.tracks;
+      tracks = tracks_on calls call f.values c g.values d asks makes.tracks agrees.tracks;
       own = makes.own;
       structured = makes.structured;
       callers_types = λ k t there.
@@ -233,7 +231,7 @@ agrees-made calls call old new f g c d p block name change status answered agree
 
 -- the caller's parameters then
 pub made-callers : (calls : List AnsweredCall) (call : AnsweredCall) (old new : Ledger) (f g : Body) (c d : ContextState) (p : Option ℕ) (block : ℕ) (name : Name) (change : BlockState → BlockState) (status : BlockStatus) (answered : List Answered)
-    (agrees : LedgerAgrees calls old f c p) (asks : AsksForNoMaps call.request) (named : block_name old block ≡ Some name)
+    (agrees : LedgerAgrees calls old f c p) (asks : TracksNothingNew call.request) (named : block_name old block ≡ Some name)
     (answers : new.answers ≡ old.answers ++ answered ∷ []) (ledger : MadeLedger old new name change) (variables : VariablesAgree new.variables d)
     (changes : ChangeAgrees change (status_of c block) status) (sets : SetsStatus c d block status) (makes : Makes agrees.own f c g d block)
     (fresh : AnswersAgree new g (length calls) answered call.numbers)

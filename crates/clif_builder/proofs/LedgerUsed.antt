@@ -21,12 +21,13 @@ use Rattle.clif_builder.specs.Builder.{is_empty_status, is_filled_status}
 use Rattle.clif_builder.specs.Construction.{IsUse}
 use Rattle.clif_builder.specs.Ledger.{AreTypesOf, LedgerAgrees, VariablesAgree, block_name, value_type, ledger_of}
 use Rattle.clif_builder.specs.Order.{IsInOrder}
+use Rattle.clif_builder.proofs.BlockValues.{parameters_constructed, parameters_inserted, same_inserted}
 use Rattle.clif_builder.proofs.LedgerLists.{name-of-some}
 use Rattle.clif_builder.proofs.LedgerKept.{Extends-inserted, Extends-then, answers-one, concluded, extends-constructs}
 use Rattle.clif_builder.proofs.LedgerMade.{ChangeAgrees, MadeLedger, Makes, agrees-made, begun-ledger, begun-variables, unpristine}
-use Rattle.clif_builder.proofs.Placed.{in_order, are_listed, listed_type, listed_types, used_alone, used_branches, used_layout, used_status}
+use Rattle.clif_builder.proofs.Placed.{in_order, are_listed, listed_type, listed_types, records_exist, used_alone, used_branches, used_layout, used_status}
 use Rattle.clif_builder.proofs.Touching.{agree_touched, type_touched, types_before}
-use Rattle.clif_builder.proofs.Tracks.{untracked_made}
+use Rattle.clif_builder.proofs.Tracks.{keeps_made}
 
 -- the ledger's type of a variable is the context's
 pub ledger-type : (calls : List AnsweredCall) (ledger : Ledger) (f : Body) (c : ContextState) (p : Option ℕ) → LedgerAgrees calls ledger f c p
@@ -96,7 +97,10 @@ module _ (f g : Body) (c d : ContextState) (variable : ℕ) (ty : «Type») (blo
         layout = used_layout f c order g d variable ty block value told use_of consistent;
         sealed = use_of.flags;
         predecessors = use_of.predecessors;
-        untracked = untracked_made (length (inserted_in f block).values) c d use_of.tracks;
+        tracks =
+            keeps_made f.values (inserted_in f block).values g.values f c d (same_inserted f block)
+            (λ v is. parameters_constructed (inserted_in f block) g use_of.constructs v (parameters_inserted f block v is))
+            use_of.stay (records_exist order.own f c order.structured) use_of.tracks use_of.makes;
         own = order.own;
         structured = λ types are. (used-structured types are).0;
         callers = λ b. refl;

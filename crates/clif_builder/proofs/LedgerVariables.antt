@@ -8,20 +8,19 @@ use Rattle.clif_ir.specs.Body.{Body, value_at}
 use Rattle.clif_meaning.specs.Name.{Name}
 use Rattle.clif_meaning.specs.Request.{AnsweredCall, DeclareVar, DefVar}
 use Rattle.clif_meaning.specs.Ledger.{AVariable, Ledger, VariableState, ledger_with}
-use Rattle.clif_records.specs.declared.tables.SsaBlock.{SsaBlock}
-use Rattle.clif_records.specs.Tables.{is_yes, predecessors_at, sealed_at}
+use Rattle.clif_records.specs.Tables.{SsaBlock, is_yes, predecessors_at, sealed_at}
 use Rattle.clif_ssa.specs.Ssa.{Records, SamePredecessors}
 use Rattle.clif_ssa.specs.Structured.{HasType}
 use Rattle.clif_ssa.proofs.StructuredLaws.{assigned_structured}
 use Rattle.clif_builder.specs.declared.context.BlockStatus.{BlockStatus}
 use Rattle.clif_builder.specs.Context.{ContextState, TouchesVariable, status_of}
-use Rattle.clif_builder.specs.Ledger.{AreTypesOf, LedgerAgrees, ledger_of}
+use Rattle.clif_builder.specs.Ledger.{AreTypesOf, LedgerAgrees, NamesValue, ledger_of}
 use Rattle.clif_builder.proofs.LedgerLists.{get-front}
 use Rattle.clif_builder.proofs.LedgerKept.{answers-none, answers-one, concluded}
 use Rattle.clif_builder.proofs.LedgerBlocks.{agrees-kept}
 use Rattle.clif_builder.proofs.Touching.{agree_declared, agree_touched, type_touched, types_before}
 use Rattle.clif_records.specs.Tracking.{with_binding}
-use Rattle.clif_builder.proofs.Tracks.{tracks_on, untracked_bound, untracked_same}
+use Rattle.clif_builder.proofs.Tracks.{keeps_ssa, tracks_bound, tracks_on}
 
 -- as many variables
 pub variable-count : (calls : List AnsweredCall) (ledger : Ledger) (f : Body) (c : ContextState) (p : Option ℕ) → LedgerAgrees calls ledger f c p → length ledger.variables ≡ length c.variables
@@ -36,7 +35,7 @@ agrees-declared calls ledger f c p ty variable agrees number =
     let d : ContextState = record c { variables = c.variables ++ ty ∷ [] } in
     agrees-kept calls call ledger new f c d p p (AVariable (length ledger.variables) ∷ []) agrees refl refl refl refl agrees.current
     (agree_declared ledger.variables c ty agrees.variables)
-    (λ b. refl) (λ b. refl) (λ b. refl) (tracks_on calls call c d tt (untracked_same c d refl) agrees.tracks)
+    (λ b. refl) (λ b. refl) (λ b. refl) (tracks_on calls call f.values c f.values d tt (keeps_ssa f.values f.values c d (λ v is. is) refl) agrees.tracks)
     (λ types are. agrees.structured types (λ x t is touched. are x t (get-front c.variables _ x t is) touched))
     (answers-one new f (length calls) (AVariable (length ledger.variables)) variable (number ∙ sym (variable-count calls ledger f c p agrees)) tt)
 
@@ -51,17 +50,17 @@ declared calls f c d p ty (Ok variable) agrees context number =
     (concluded calls call f (record c { variables = c.variables ++ ty ∷ [] }) p (agrees-declared calls (ledger_of calls) f c p ty variable agrees number))
 
 pub agrees-assigned : (calls : List AnsweredCall) (ledger : Ledger) (f : Body) (c d : ContextState) (p : Option ℕ) (variable : ℕ) (name : Name) (block value : ℕ) (ty : «Type»)
-    → LedgerAgrees calls ledger f c p → slice_get c.variables variable ≡ Some ty → HasType f value ty
+    → LedgerAgrees calls ledger f c p → NamesValue calls name value → slice_get c.variables variable ≡ Some ty → HasType f value ty
     → Records c.ssa d.ssa variable block value → d.ssa.tracking ≡ with_binding c.ssa.tracking variable value → d.ssa.blocks ≡ c.ssa.blocks → d.status ≡ c.status → TouchesVariable c d variable
     → LedgerAgrees (calls ++ record { request = DefVar variable name; numbers = [] } ∷ []) (ledger_with ledger (DefVar variable name)) f d p
-agrees-assigned calls ledger f c d p variable name block value ty agrees declared typed records tracking blocks status touches =
+agrees-assigned calls ledger f c d p variable name block value ty agrees names declared typed records tracking blocks status touches =
     let call : AnsweredCall = record { request = DefVar variable name; numbers = [] } in
     let new : Ledger = ledger_with ledger (DefVar variable name) in
     agrees-kept calls call ledger new f c d p p [] agrees refl refl refl refl agrees.current
     (agree_touched ledger.variables c d variable inside touches agrees.variables)
     (λ b. ap (λ (xs : List SsaBlock). is_yes (sealed_at xs b)) blocks) leads
     (λ b. ap (λ (xs : List BlockStatus). status_of (record c { status = xs }) b) status)
-    (tracks_on calls call c d tt (untracked_bound c d variable value tracking) agrees.tracks)
+    (tracks_bound calls f.values c d variable block value name names records tracking agrees.tracks)
     (λ types are.
     let before : AreTypesOf c types = types_before c d variable types touches are in
     let has : HasType f value (types variable) = subst (HasType f value) (sym (type_touched c d variable ty types touches declared are)) typed in
@@ -77,10 +76,10 @@ agrees-assigned calls ledger f c d p variable name block value ty agrees declare
 
 -- what comes of an assignment
 pub assigned : {E : Type 0} (calls : List AnsweredCall) (f : Body) (c d : ContextState) (p : Option ℕ) (variable : ℕ) (name : Name) (block value : ℕ) (r : Result (Unit {0}) E)
-    → LedgerAgrees calls (ledger_of calls) f c p → value < length f.values → slice_get c.variables variable ≡ Some (value_at f value).ty
+    → LedgerAgrees calls (ledger_of calls) f c p → NamesValue calls name value → value < length f.values → slice_get c.variables variable ≡ Some (value_at f value).ty
     → OnOk r (Records c.ssa d.ssa variable block value) → OnOk r (d.ssa.tracking ≡ with_binding c.ssa.tracking variable value) → d.ssa.blocks ≡ c.ssa.blocks → d.status ≡ c.status → OnOk r (TouchesVariable c d variable)
     → OnOk r (LedgerAgrees (calls ++ record { request = DefVar variable name; numbers = [] } ∷ []) (ledger_of (calls ++ record { request = DefVar variable name; numbers = [] } ∷ [])) f d p)
-assigned calls f c d p variable name block value (Err e) agrees exists declared records tracking blocks status variables = tt
-assigned calls f c d p variable name block value (Ok done) agrees exists declared records tracking blocks status variables =
+assigned calls f c d p variable name block value (Err e) agrees names exists declared records tracking blocks status variables = tt
+assigned calls f c d p variable name block value (Ok done) agrees names exists declared records tracking blocks status variables =
     concluded calls (record { request = DefVar variable name; numbers = [] }) f d p
-    (agrees-assigned calls (ledger_of calls) f c d p variable name block value (value_at f value).ty agrees declared (exists, refl) records tracking blocks status variables)
+    (agrees-assigned calls (ledger_of calls) f c d p variable name block value (value_at f value).ty agrees names declared (exists, refl) records tracking blocks status variables)

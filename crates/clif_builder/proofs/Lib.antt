@@ -3,6 +3,7 @@ pub mod LedgerLists
 pub mod LedgerNames
 pub mod Callers
 pub mod Calls
+pub mod BlockValues
 pub mod LedgerKept
 pub mod Placed
 pub mod LedgerMade
@@ -46,6 +47,8 @@ pub mod Lasting
 pub mod Tracking
 mod Needing
 pub mod Tracks
+mod Made
+pub mod Exactly
 pub mod Ending
 mod Fitting
 mod Spilled

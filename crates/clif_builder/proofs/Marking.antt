@@ -36,7 +36,7 @@ use Rattle.clif_builder.proofs.Placed.{in_order, branch_exists}
 use Rattle.clif_builder.proofs.Standing.{current_name, first_cases}
 use Rattle.clif_builder.proofs.StandingCallers.{alone_after, kept_alone, same_callers}
 use Rattle.clif_builder.proofs.Touching.{agree_same, are_types}
-use Rattle.clif_builder.proofs.Tracks.{untracked_ssa, tracks_still}
+use Rattle.clif_builder.proofs.Tracks.{keeps_ssa, tracks_still}
 
 -- COLD BLOCKS -------------------------------------------------------------------------------------------------------------
 
@@ -119,7 +119,7 @@ module _ (calls : List AnsweredCall) (f : Body) (c : ContextState) (p : Option �
     layout = named-more (block_name old) (block_name new) old.layout f.layout names agrees.layout;
     variables = agrees.variables;
     tables = agrees.tables;
-    tracks = tracks_still calls marks c tt agrees.tracks;
+    tracks = tracks_still calls marks f.values c tt agrees.tracks;
     own = agrees.own;
     structured = λ types are.
         blocks_structured f g.blocks f.layout f.tables (λ constant bytes here. here) types agrees.own c.ssa [] (cold_params f.blocks b) (cold_insts f.blocks b)
@@ -176,7 +176,7 @@ ensured-makes f c d block order sets ssa variables =
       layout = refl;
       sealed = λ b. ap (λ (s : SsaState). is_yes (sealed_of s b)) ssa;
       predecessors = λ b. ap (λ (s : SsaState). predecessors_of s b) ssa;
-      untracked = untracked_ssa c d ssa;
+      tracks = keeps_ssa f.values g.values c d extends.parameters ssa;
       own = order.own;
       structured = λ types are.
           subst (λ (s : SsaState). Structured types order.own g s []) (sym ssa)

@@ -12,8 +12,7 @@ use Rattle.clif_ir.specs.Body.{Body, value_at}
 use Rattle.clif_ir.specs.Changes.{inserted_in, with_block, with_inst, with_param}
 use Rattle.clif_instructions.specs.declared.insert_at.InsertAt.{InsertAt}
 use Rattle.clif_instructions.specs.declared.instructions.InstructionData.{InstructionData}
-use Rattle.clif_records.specs.declared.tables.SsaBlock.{SsaBlock}
-use Rattle.clif_records.specs.Tables.{predecessors_at, sealed_at, pending_of}
+use Rattle.clif_records.specs.Tables.{SsaBlock, pending_of, predecessors_at, sealed_at}
 use Rattle.clif_ssa.specs.Ssa.{SsaState, NamesExist, record_of, Records, SameRecords}
 use Rattle.clif_builder.proofs.Growing.{Grows-inserted, Grows-with_block, Grows-with_inst, Grows-with_param}
 use Rattle.clif_builder.specs.Construction.{IsUse}

@@ -27,6 +27,7 @@ use Rattle.clif_builder.specs.Marks.{IsUnused, VariableFits}
 use Rattle.clif_builder.specs.StandsFor.{StandsFor, StandsIn}
 use Rattle.clif_builder.specs.Tracking.{with_tracking}
 use Rattle.clif_builder.proofs.Calls.{told}
+use Rattle.clif_builder.proofs.Exactly.{exactly_needing}
 use Rattle.clif_builder.proofs.Growing.{on_ok_step}
 use Rattle.clif_builder.proofs.LedgerBlocks.{agrees-kept}
 use Rattle.clif_builder.proofs.LedgerKept.{answers-none, concluded, ledger-more}
@@ -54,18 +55,21 @@ module _ (calls : List AnsweredCall) (f : Body) (c : ContextState) (p : Option �
   abbrev d : ContextState
   d = with_tracking c tracked
 
-  need_tracks : NeedMarks need (ledger_of calls) tracked → TracksAgree (calls ++ call ∷ []) d
-  need_tracks marks = record {
+  need_tracks : NeedMarks need (ledger_of calls) tracked → TracksNeed calls c.ssa d.ssa need → TracksAgree calls f.values c
+      → TracksAgree (calls ++ call ∷ []) f.values d
+  need_tracks marks tracks agrees = record {
     marks = λ x. ap (λ (ledger : Ledger). is_marked ledger x) (ledger-more calls call) ∙ marks x;
+    exactly = exactly_needing calls call f.values c.ssa agrees.exactly d.ssa need refl tracks (λ x b. refl);
     untracked = λ asks. asks_last calls need asks;
   }
 
-  pub need_agrees : NeedMarks need (ledger_of calls) tracked → LedgerAgrees calls (ledger_of calls) f c p → LedgerAgrees (calls ++ call ∷ []) (ledger_of (calls ++ call ∷ [])) f d p
-  need_agrees marks agrees =
+  pub need_agrees : NeedMarks need (ledger_of calls) tracked → TracksNeed calls c.ssa d.ssa need → LedgerAgrees calls (ledger_of calls) f c p
+      → LedgerAgrees (calls ++ call ∷ []) (ledger_of (calls ++ call ∷ [])) f d p
+  need_agrees marks tracks agrees =
       let new : Ledger = ledger_with (ledger_of calls) (NeedStackMap need) in
       concluded calls call f d p
       (agrees-kept calls call (ledger_of calls) new f c d p p [] agrees refl refl refl refl agrees.current (agree_same _ c d (refl, refl) (agree_needed need (ledger_of calls).variables c agrees.variables))
-      (λ b. refl) (λ b. refl) (λ b. refl) (need_tracks marks)
+      (λ b. refl) (λ b. refl) (λ b. refl) (need_tracks marks tracks agrees.tracks)
       (λ types are. same_structured types agrees.own f c.ssa d.ssa [] (λ x b. refl) (λ b. refl) (λ b. refl) (agrees.structured types are))
       (answers-none new f (length calls)))
 
@@ -93,7 +97,7 @@ pub needing : (old new : FunctionBuilder) (answer : Result (Unit {0}) BuildError
     → IsTold old new answer names (λ _. answered (NeedStackMap need) [])
 needing old new answer need tracked names marks tracks function position context =
     told old new answer names (answered (NeedStackMap need) [])
-    (λ calls agrees named. on_ok_step answer _ _ (λ is. agree calls agrees is) context)
+    (λ calls agrees named. on_ok_step answer _ _ (λ is. agree calls agrees (tracks calls named) is) context)
     (λ signature calls standing named ledger. on_ok_both answer (λ is now. stand signature calls standing (tracks calls named) is now) context ledger)
   where
     -- the parts of the builder behind the call
@@ -109,9 +113,11 @@ needing old new answer need tracked names marks tracks function position context
         subst (λ (f : Body). P f (with_tracking old.ctx.now tracked) old.position) function
         (subst (λ (c : ContextState). P new.func.now c old.position) is (subst (P new.func.now new.ctx.now) position holds))
 
-    agree : (calls : List AnsweredCall) → AgreesWithLedger calls old → new.ctx.now ≡ with_tracking old.ctx.now tracked → AgreesWithLedger (calls ++ answered (NeedStackMap need) [] ∷ []) new
-    agree calls agrees is =
-        moved (λ f c p. LedgerAgrees (calls ++ answered (NeedStackMap need) [] ∷ []) (ledger_of (calls ++ answered (NeedStackMap need) [] ∷ [])) f c p) is (need_agrees calls old.func.now old.ctx.now old.position need tracked (marks calls agrees) agrees)
+    agree : (calls : List AnsweredCall) → AgreesWithLedger calls old → TracksNeed calls old.ctx.now.ssa (with_tracking old.ctx.now tracked).ssa need → new.ctx.now ≡ with_tracking old.ctx.now tracked
+        → AgreesWithLedger (calls ++ answered (NeedStackMap need) [] ∷ []) new
+    agree calls agrees needs is =
+        moved (λ f c p. LedgerAgrees (calls ++ answered (NeedStackMap need) [] ∷ []) (ledger_of (calls ++ answered (NeedStackMap need) [] ∷ [])) f c p) is
+        (need_agrees calls old.func.now old.ctx.now old.position need tracked (marks calls agrees) needs agrees)
 
     stand : (signature : SignatureShape) (calls : List AnsweredCall) → StandsFor signature calls old → TracksNeed calls old.ctx.now.ssa (with_tracking old.ctx.now tracked).ssa need → new.ctx.now ≡ with_tracking old.ctx.now tracked
         → AgreesWithLedger (calls ++ answered (NeedStackMap need) [] ∷ []) new → StandsFor signature (calls ++ answered (NeedStackMap need) [] ∷ []) new

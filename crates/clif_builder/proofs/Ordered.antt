@@ -20,14 +20,13 @@ use Rattle.clif_tables.specs.Callees.{types_of_results}
 use Rattle.clif_instructions.specs.Members.{stands_in}
 use Rattle.clif_instructions.specs.Edges.{targets}
 use Rattle.clif_paths.proofs.Tables.{updated-same}
-use Rattle.clif_records.specs.declared.tables.SsaBlock.{SsaBlock}
+use Rattle.clif_records.specs.Tables.{RecordMap, SsaBlock, is_yes, predecessors_at, record_at, sealed_at}
 use Rattle.clif_ssa.specs.LookUp.{branch_block}
 use Rattle.clif_ssa.specs.Own.{Own, no_own}
 use Rattle.clif_ssa.specs.Sound.{args_of}
 use Rattle.clif_ssa.specs.SoundLaws.{shape_passes, with_own}
 use Rattle.clif_ssa.specs.Ssa.{Records, SameBlocks, SamePredecessors, predecessors_of, sealed_of}
 use Rattle.clif_ssa.specs.Structured.{HasType, Structured}
-use Rattle.clif_records.specs.Tables.{RecordMap, is_yes, predecessors_at, record_at, sealed_at}
 use Rattle.clif_ssa.proofs.Bodies.{firm_from}
 use Rattle.clif_ssa.proofs.Counting.{block_params}
 use Rattle.clif_ssa.proofs.Ordering.{none_contained}

@@ -17,7 +17,6 @@ use Rattle.clif_ssa.proofs.Bodies.{firm_from}
 use Rattle.clif_paths.proofs.Tables.{updated-same}
 use Rattle.clif_meaning.specs.Name.{Name, answer_of, same_name}
 use Rattle.clif_meaning.specs.Request.{AnsweredCall, Request, AppendBlockParams, AppendFunctionParams}
-use Rattle.clif_meaning.specs.Tracked.{AsksForNoMaps}
 use Rattle.clif_meaning.specs.Ledger.{ABlock, AValue, Answered, BlockState, Ledger, VariableState, ledger_with, with_parameter_types, with_state}
 use Rattle.clif_meaning.proofs.CallLists.{kept}
 use Rattle.clif_simulation.specs.Carries.{numbers_from, with_params}
@@ -32,7 +31,7 @@ use Rattle.clif_builder.proofs.LedgerKept.{answer-still, answers-after, branch-k
 use Rattle.clif_builder.proofs.LedgerMade.{block-exists, changed-names, numbers-kept}
 use Rattle.clif_builder.proofs.LedgerUsed.{typed-value}
 use Rattle.clif_builder.proofs.Placed.{in_order, branch_exists}
-use Rattle.clif_builder.proofs.Tracks.{tracks_still}
+use Rattle.clif_builder.proofs.Tracks.{TracksNothingNew, tracks_more}
 
 -- THE FUNCTION ----------------------------------------------------------------------------------------------------------
 
@@ -93,9 +92,9 @@ params-answered ledger f b place types = record {
 module _ (calls : List AnsweredCall) (ledger : Ledger) (f : Body) (c : ContextState) (p : Option ℕ) (agrees : LedgerAgrees calls ledger f c p) (consistent : IsConsistent f)
     (b : ℕ) (B : Name) (named : block_name ledger b ≡ Some B) (empty : status_of c b ≡ Empty)
     (types : List «Type») (call : AnsweredCall) (makes : Makes call.request B types) (numbers : call.numbers ≡ numbers_from (length f.values) types) where
-  asks_none : Makes call.request B types → AsksForNoMaps call.request
-  asks_none (inl is) = subst AsksForNoMaps (sym is) tt
-  asks_none (inr is) = subst AsksForNoMaps (sym is) tt
+  tracks_none : Makes call.request B types → TracksNothingNew call.request
+  tracks_none (inl is) = subst TracksNothingNew (sym is) tt
+  tracks_none (inr is) = subst TracksNothingNew (sym is) tt
 
   abbrev g : Body
   g = with_params f b types
@@ -221,7 +220,7 @@ module _ (calls : List AnsweredCall) (ledger : Ledger) (f : Body) (c : ContextSt
         ∙ ap (map (block_name new)) (sym (same_layout f b types));
     variables = subst (λ (states : List VariableState). VariablesAgree states c) (sym variables_are) agrees.variables;
     tables = tables_are ∙ agrees.tables ∙ sym extends.tables;
-    tracks = tracks_still calls call c (asks_none makes) agrees.tracks;
+    tracks = tracks_more calls call f.values g.values c (tracks_none makes) extends.parameters agrees.tracks;
     own = mine;
     structured = λ declared are. params_structured b (length calls) declared agrees.own f c.ssa types (firm_from f consistent) there bare (agrees.structured declared are);
     callers_types = λ k t at.

@@ -16,7 +16,7 @@ use Rattle.clif_instructions.proofs.Members.{Once-tail}
 use Rattle.clif_meaning.specs.Request.{AnsweredCall}
 use Rattle.clif_meaning.specs.Ledger.{Ledger, or_invalid}
 use Rattle.clif_ssa.specs.Own.{Own}
-use Rattle.clif_ssa.specs.Ssa.{predecessors_of, sealed_of}
+use Rattle.clif_ssa.specs.Ssa.{predecessors_of, sealed_of, record_of}
 use Rattle.clif_records.specs.Tables.{pending_of}
 use Rattle.clif_ssa.specs.LookUp.{branch_block}
 use Rattle.clif_ssa.specs.Structured.{Structured, VariableTypes}
@@ -30,7 +30,7 @@ use Rattle.clif_builder.specs.Context.{Begins, ContextState, SameStatus, SetsSta
 use Rattle.clif_builder.specs.Builder.{is_empty_status}
 use Rattle.clif_builder.specs.Construction.{IsSealingOf, IsUse}
 use Rattle.clif_builder.specs.Ledger.{LedgerAgrees}
-use Rattle.clif_builder.specs.Order.{AloneUnlessBegun, AreTypesOf, IsBegun, IsEnded, IsInOrder}
+use Rattle.clif_builder.specs.Order.{AloneUnlessBegun, AreTypesOf, IsBegun, IsEnded, IsInOrder, IsStructured}
 use Rattle.clif_builder.proofs.Callers.{alone_stays, none_waits_alone}
 use Rattle.clif_builder.proofs.LedgerLists.{if-yes, if-no}
 use Rattle.clif_builder.proofs.LedgerKept.{inserted-insts, stands-inserted, stands-still}
@@ -135,6 +135,10 @@ are_listed c x ty is touched = listed_type c.variables x ty is
 pub listed_structured : (f : Body) (c : ContextState) (order : IsInOrder f c)
     → Structured (listed_types c.variables) order.own f c.ssa []
 listed_structured f c order = order.structured (listed_types c.variables) (are_listed c)
+
+-- what is on record exists
+pub records_exist : (own : Own) (f : Body) (c : ContextState) → IsStructured own f c → (x b v : ℕ) → record_of c.ssa x b ≡ Some v → v < length f.values
+records_exist own f c structured x b v is = ((structured (listed_types c.variables) (are_listed c)).recorded x b v is).0
 
 -- a branch that leads somewhere exists
 pub branch_exists : (f : Body) (c : ContextState) → IsInOrder f c

@@ -13,8 +13,7 @@ use Rattle.clif_instructions.specs.Members.{Once, Stands, stands_in, without}
 use Rattle.clif_instructions.proofs.Members.{Once-tail, Stands-from_test, if_true, if_false}
 use Rattle.clif_nodes.specs.Nodes.{no_inst}
 use Rattle.clif_nodes.specs.declared.nodes.InstNode.{InstNode}
-use Rattle.clif_records.specs.declared.tables.Sealed.{Sealed}
-use Rattle.clif_records.specs.Tables.{RecordMap, is_yes, pending_of, record_at}
+use Rattle.clif_records.specs.Tables.{RecordMap, Sealed, is_yes, pending_of, record_at}
 use Rattle.clif_ssa.specs.LookUp.{branch_block}
 use Rattle.clif_ssa.specs.Moving.{MovesBranch, moved_leads, with_once}
 use Rattle.clif_ssa.specs.Own.{Own}
@@ -53,7 +52,7 @@ use Rattle.clif_builder.proofs.LedgerNames.{IsNumbered, by-number, name-number, 
 use Rattle.clif_builder.proofs.Placed.{in_order}
 use Rattle.clif_builder.proofs.StandingCallers.{alone_after, kept_alone, same_callers}
 use Rattle.clif_builder.proofs.Touching.{agree_same, are_types}
-use Rattle.clif_builder.proofs.Tracks.{untracked_same, tracks_on}
+use Rattle.clif_builder.proofs.Tracks.{keeps_same, tracks_on}
 
 -- WHAT THE CALLER PASSED ------------------------------------------------------------------------------------------------
 
@@ -216,7 +215,7 @@ module _ (f : Body) (c : ContextState) (g : Body) (d : ContextState) (i a b : �
   pub redirected_extends : Extends f g
   redirected_extends =
       on_new (Extends f) (Extends-same f f refl)
-      (record { values = λ v ty is. is; insts = moved_insts; block_count = refl; cold = λ x. refl; tables = refl })
+      (record { parameters = λ v is. is; values = λ v ty is. is; insts = moved_insts; block_count = refl; cold = λ x. refl; tables = refl })
 
   same_layout : g.layout ≡ f.layout
   same_layout = on_new (λ h. h.layout ≡ f.layout) refl refl
@@ -489,7 +488,9 @@ module _ (declared : SignatureShape) (calls : List AnsweredCall) (f : Body) (c :
         ∙ ap (map (block_name new)) (sym (same_layout f c g d i a b redirects within open_a open_b leads));
     variables = agree_same old.variables c d redirects.variables agrees.variables;
     tables = agrees.tables ∙ sym extends.tables;
-    tracks = tracks_on calls _ c d tt (untracked_same c d redirects.tracking) agrees.tracks;
+    tracks =
+        tracks_on calls _ f.values c g.values d tt
+        (keeps_same f.values g.values c d extends.parameters (λ x k. ap (λ (m : RecordMap). record_at m x k) redirects.records) redirects.tracking) agrees.tracks;
     own = own_passing agrees.own f b;
     structured = λ types are.
         structured_still f c g d i a b redirects within open_a open_b leads agrees.own consistent types

@@ -23,13 +23,13 @@ use Rattle.clif_builder.specs.StandsFor.{StandsIn}
 use Rattle.clif_builder.proofs.LedgerLists.{if-yes, if-no, map-some, named-more, one-named-more}
 use Rattle.clif_builder.proofs.LedgerKept.{Extends, answer-still, answers-after, answers-none, concluded, extends-constructs, keeps-of, places-after, types-kept}
 use Rattle.clif_builder.proofs.LedgerMade.{numbers-kept}
-use Rattle.clif_builder.proofs.Placed.{in_order, are_listed, listed_types, sealed_alone, sealed_branches, sealed_layout, sealed_status}
+use Rattle.clif_builder.proofs.Placed.{in_order, are_listed, listed_types, sealed_alone, sealed_branches, sealed_layout, sealed_status, records_exist}
 use Rattle.clif_builder.proofs.Standing.{begins_not_empty}
 use Rattle.clif_builder.proofs.StandingCallers.{alone_after, same_callers}
 use Rattle.clif_simulation.proofs.Whole.{declared_types}
 use Rattle.clif_simulation.proofs.Calls.{structured_so_far}
 use Rattle.clif_builder.proofs.Touching.{agree_same, are_types}
-use Rattle.clif_builder.proofs.Tracks.{tracks_made, tracks_on, untracked_made}
+use Rattle.clif_builder.proofs.Tracks.{keeps_made, tracks_made, tracks_on}
 
 abbrev seals_all : AnsweredCall
 seals_all = record { request = SealAllBlocks; numbers = [] }
@@ -96,7 +96,11 @@ module _ (calls : List AnsweredCall) (ledger : Ledger) (f g : Body) (c d : Conte
     layout = named-more (block_name ledger) (block_name new) ledger.layout f.layout names agrees.layout ∙ ap (map (block_name new)) (sym layout);
     variables = agree_same ledger.variables c d variables agrees.variables;
     tables = agrees.tables ∙ sym extends.tables;
-    tracks = tracks_on calls seals_all c d tt (untracked_made (length f.values) c d sealing.tracks) agrees.tracks;
+    tracks =
+        tracks_on calls seals_all f.values c g.values d tt
+        (keeps_made f.values f.values g.values f c d refl extends.parameters sealing.stay (records_exist agrees.own f c agrees.structured) sealing.tracks
+        sealing.makes)
+        agrees.tracks;
     own = agrees.own;
     structured = structured;
     callers_types = λ k t there.

@@ -15,6 +15,7 @@ use Rattle.clif_ssa.specs.Constructs.{OnlyConstructs, TellsZeros}
 use Rattle.clif_ssa.specs.Within.{HoldsBranches, HoldsWaiting, StaysWithin}
 use Rattle.clif_records.specs.Tables.{is_yes}
 use Rattle.clif_simulation.specs.Carries.{DeclaredAlong}
+use Rattle.clif_builder.specs.Recorded.{MakesInto}
 use Rattle.clif_builder.specs.Tracking.{TracksParameters}
 
 -- A use of a variable of type `ty` in a block of the layout answers `value`; zeros come into the blocks `told`.
@@ -28,6 +29,7 @@ pub record IsUse (f : Body) (s : SsaState) (g : Body) (t : SsaState) (variable :
   pub remembers : (x b : ℕ) → Remembers x b f s g t
   pub recorded : HasRecordOf g t variable block value
   pub tracks : TracksParameters (length f.values) s t
+  pub makes : MakesInto f.values g.values s t
   pub structured : (types : VariableTypes) (own : Own) → ty ≡ types variable → Structured types own f s []
       → Structured types own g t [] × HasType g value ty
   pub keeps : (own : Own) (tables : Blocks) → DescribesSoundly own f s tables → KeepsAndKnows own tables g t block variable value
@@ -41,6 +43,7 @@ pub record IsSealingOf (f : Body) (s : SsaState) (g : Body) (t : SsaState) (seal
   pub sealed : (b : ℕ) → is_yes (sealed_of t b) ≡ (if seals b then true else is_yes (sealed_of s b))
   pub stay : RecordsStay s t
   pub tracks : TracksParameters (length f.values) s t
+  pub makes : MakesInto f.values g.values s t
   pub remembers : (x b : ℕ) → Remembers x b f s g t
   pub structured : (types : VariableTypes) (own : Own) → Structured types own f s [] → Structured types own g t []
   pub keeps : (own : Own) (tables : Blocks) → ((b : ℕ) → seals b ≡ true → SparesIfEntry f s b) → DescribesSoundly own f s tables → Keeps own tables g t

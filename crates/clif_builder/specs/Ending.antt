@@ -1,10 +1,11 @@
 -- What `finalize` answers, and what it makes of the function. Source: the crate's documentation of `finalize`; the statement is own.
-use Rattle.std.specs.Prelude.{◌≡◌, ◌≢◌, ℕ, List, [], ◌∷◌, length, Some, None, Result, Ok, Err}
+use Rattle.std.specs.Prelude.{◌≡◌, ◌≢◌, ℕ, List, [], ◌∷◌, length, Option, Some, None, Result, Ok, Err}
 use Rattle.clif_types.specs.EntitySet.{has}
 use Rattle.clif_types.specs.Signature.{SignatureShape}
 use Rattle.clif_types.specs.declared.target.PointerWidth.{PointerWidth}
 use Rattle.clif_types.specs.declared.types.«Type».{«Type»}
 use Rattle.clif_ir.specs.Body.{Body}
+use Rattle.clif_meaning.specs.Acceptance.{Refusal}
 use Rattle.clif_meaning.specs.Premises.{CallersEdgesMatch, PlacementPremises}
 use Rattle.clif_meaning.specs.Request.{AnsweredCall, script_of}
 use Rattle.clif_meaning.specs.Typing.{EdgesMatch}
@@ -20,6 +21,8 @@ use Rattle.clif_builder.specs.declared.builder.FunctionBuilder.{FunctionBuilder}
 use Rattle.clif_builder.specs.declared.error.FinalizeError.{FinalizeError}
 use Rattle.clif_builder.specs.declared.error.FinalizeError.TheVariants.{Full, Memory, TrackedContext}
 use Rattle.clif_builder.specs.Builder.{verdict_of}
+use Rattle.clif_builder.specs.Ledger.{RefusalAgrees}
+use Rattle.clif_builder.specs.Recorded.{RecordsExactly}
 
 -- the values that stack maps need
 abbrev pub recorded_in : FunctionBuilder → List ℕ
@@ -42,6 +45,11 @@ EndsWith (Ok u) f recorded answer = TellsContext f recorded answer
 -- what a builder answers
 abbrev pub Ends : FunctionBuilder → Result (Unit {0}) FinalizeError → Type 0
 Ends b answer = EndsWith (verdict_of b.failed b.ctx.now (length b.func.now.blocks)) b.func.now (recorded_in b) answer
+
+-- What is answered by the ledger of the calls: what that refuses, or else what is told of contexts and spills.
+abbrev pub EndsByLedger : List AnsweredCall → Option Refusal → Body → (recorded : List ℕ) → Result (Unit {0}) FinalizeError → Type 0
+EndsByLedger calls None f recorded answer = TellsContext f recorded answer
+EndsByLedger calls (Some refusal) f recorded answer = RefusalAgrees calls (Some refusal) answer
 
 -- what the spiller answers
 abbrev pub TellsSpill : Result (Unit {0}) FinalizeError → Type 0
@@ -76,6 +84,8 @@ IsBeforeSpilling (Err other) = Unit {0}
 pub record AsFound (signature : SignatureShape) (width : PointerWidth) (calls : List AnsweredCall) (b : FunctionBuilder) : Type 0 where
   -- it means what the calls mean, with a collector over the recorded values
   pub moving : MeansTheSameMoving (script_of calls) signature width (view_of b.func.now) (has (recorded_in b))
+  -- and these are exactly what the calls ask for
+  pub recorded : RecordsExactly calls b.func.now.values b.ctx.now.ssa
   pub parameters : LeavesNoParameter calls b.func.now b.ctx.now.ssa
   pub edges_match : CallersEdgesMatch (script_of calls) → EdgesMatch (view_of b.func.now)
   pub well_placed : PlacementPremises (script_of calls) signature → WellPlaced (view_of b.func.now)

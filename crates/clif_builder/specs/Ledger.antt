@@ -16,10 +16,10 @@ use Rattle.clif_nodes.specs.declared.nodes.ValueNode.{ValueNode}
 use Rattle.clif_nodes.specs.declared.nodes.InstNode.{InstNode}
 use Rattle.clif_ir.specs.Body.{Body, block_at}
 use Rattle.clif_meaning.specs.Name.{Name, answer_of}
-use Rattle.clif_meaning.specs.Request.{AnsweredCall, Finalize, script_of, number_of}
+use Rattle.clif_meaning.specs.Request.{AnsweredCall, script_of, number_of}
 use Rattle.clif_meaning.specs.Ledger.{Answered, ABlock, AVariable, AValue, AnInstruction, AnEntry, AnEdge, AJumpTable, AnExceptionTable, BlockState, ExceptionTable, Ledger, VariableState, ledger_after, answer_at, has_block, has_instruction, has_value, is_marked}
 use Rattle.clif_meaning.specs.Tracked.{TracksNothing}
-use Rattle.clif_meaning.specs.Acceptance.{Refusal, refusal_of}
+use Rattle.clif_meaning.specs.Acceptance.{Refusal}
 use Rattle.clif_meaning.specs.Acceptance as refusal
 use Rattle.clif_records.specs.Tables.{is_yes}
 use Rattle.clif_records.specs.Tracking.{marked_of}
@@ -35,15 +35,18 @@ use Rattle.clif_builder.specs.declared.builder.FunctionBuilder.{FunctionBuilder}
 use Rattle.clif_builder.specs.Context.{ContextState, status_of}
 pub use Rattle.clif_builder.specs.Order.{AloneUnlessBegun, AreTypesOf, IsBegun, IsEnded, IsStructured}
 use Rattle.clif_builder.specs.Builder.{is_empty_status, is_filled_status}
+use Rattle.clif_builder.specs.Recorded.{RecordsExactly}
 use Rattle.clif_builder.specs.Tracking.{IsUntracked}
 
 -- the ledger of answered calls
 abbrev pub ledger_of : List AnsweredCall → Ledger
 ledger_of calls = ledger_after (script_of calls)
 
--- The variables that calls marked are marked. Where no call asks for stack maps nothing is recorded, either.
-pub record TracksAgree (calls : List AnsweredCall) (c : ContextState) : Type 0 where
+-- The variables that calls marked are marked, and of a function with these values exactly what calls ask for is recorded. Where
+-- no call asks for stack maps nothing is recorded.
+pub record TracksAgree (calls : List AnsweredCall) (values : List ValueNode) (c : ContextState) : Type 0 where
   pub marks : (variable : ℕ) → is_marked (ledger_of calls) variable ≡ has (marked_of c.ssa.tracking) variable
+  pub exactly : RecordsExactly calls values c.ssa
   pub untracked : TracksNothing (script_of calls) → IsUntracked c
 
 -- the name of the block with this number: blocks are numbered as they were created
@@ -194,7 +197,7 @@ pub record LedgerAgrees (calls : List AnsweredCall) (ledger : Ledger) (f : Body)
   -- stack slots, signatures, functions and so on
   pub tables : ledger.tables ≡ tables_of_calls f.tables
   -- what is asked for of stack maps
-  pub tracks : TracksAgree calls c
+  pub tracks : TracksAgree calls f.values c
   -- what the caller made, and beside it parameters, edges and records in order
   pub own : Own
   pub structured : IsStructured own f c
@@ -217,7 +220,3 @@ RefusalAgrees calls (Some (refusal.Unsealed name)) result =
     (block : ℕ) × (number_of calls name ≡ Some block) × (result ≡ Err (error.Unsealed block))
 RefusalAgrees calls (Some (refusal.Unfilled name)) result =
     (block : ℕ) × (number_of calls name ≡ Some block) × (result ≡ Err (error.Unfilled block))
-
--- the calls' own `finalize` is refused for this
-abbrev pub IsRefused : List AnsweredCall → Refusal → Type 0
-IsRefused calls refusal = refusal_of (ledger_of calls) Finalize ≡ Some refusal

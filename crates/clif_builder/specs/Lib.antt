@@ -7,6 +7,7 @@ pub mod Redirecting
 pub mod Order
 pub mod Labels
 pub mod Tracking
+pub mod Recorded
 pub mod Marks
 pub mod Ledger
 pub mod Growth

@@ -151,9 +151,9 @@ impl<'a> FunctionBuilder<'a> {
 
     /// Makes an exception table, for one `try_call` or `try_call_indirect`: the signature of the call, the edge along
     /// which it goes when it returns, and the items, which say along which edge it goes when it throws.
-    /// [`block_call`] makes the edges.
+    /// [`block_call`] makes the edges, and the signature was imported.
     ///
-    /// No branch is made, and what the table names is asked for only by the try call.
+    /// No branch is made, and what else the table names is asked for only by the try call.
     ///
     /// # Errors
     ///
@@ -164,6 +164,7 @@ impl<'a> FunctionBuilder<'a> {
         &mut self,
         table: ExceptionTableData,
     ) -> Result<ExceptionTable, BuildError>
+        requires imported { table.sig < length self.old.func.now.tables.signatures }
         ensures { CreatesExceptionTable table self.old self.new result }
     {
         if self.failed {

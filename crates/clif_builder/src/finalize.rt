@@ -1,20 +1,19 @@
 //! The end of a function's building.
-ghost use Rattle.std.specs.Prelude.{OnErr, OnOk, ◌≡◌, ◌<◌, ◌^◌, ◌⊎◌, [], List, Some, length, false};
+ghost use Rattle.std.specs.Prelude.{OnErr, OnOk, ◌≡◌, ◌<◌, ◌^◌, ◌⊎◌, [], List, length, false};
 ghost use Rattle.clif_types.specs.Signature.{SignatureShape};
 ghost use Rattle.clif_types.specs.Target.{pointer_type_of};
-ghost use Rattle.clif_meaning.specs.Acceptance.{Refusal, refusal_of};
+ghost use Rattle.clif_meaning.specs.Acceptance.{refusal_of};
 ghost use Rattle.clif_meaning.specs.Headline.{MeansTheSame};
 ghost use Rattle.clif_meaning.specs.Premises.{CallersEdgesMatch};
 ghost use Rattle.clif_meaning.specs.Request.{AnsweredCall, Finalize, script_of};
-ghost use Rattle.clif_meaning.specs.Tracked.{TracksNothing};
 ghost use Rattle.clif_meaning.specs.Typing.{EdgesMatch};
 ghost use Rattle.clif_meaning.specs.View.{view_of};
 ghost use Rattle.clif_ir.specs.Body.{empty_function};
 ghost use Rattle.clif_records.specs.Tracking.{recorded_of};
 ghost use Rattle.clif_builder.specs.Builder.{answer_of, block_fault, first_fault};
 ghost use Rattle.clif_builder.specs.Context.{empty_context};
-ghost use Rattle.clif_builder.specs.Ending.{AnswersAfter, AsFound, BecomesSpilled, Ends, IsBeforeSpilling, TellsContext, recorded_in};
-ghost use Rattle.clif_builder.specs.Ledger.{AgreesWithLedger, IsRefused, RefusalAgrees, ledger_of};
+ghost use Rattle.clif_builder.specs.Ending.{AnswersAfter, AsFound, BecomesSpilled, Ends, EndsByLedger, IsBeforeSpilling, TellsContext, recorded_in};
+ghost use Rattle.clif_builder.specs.Ledger.{AgreesWithLedger, ledger_of};
 ghost use Rattle.clif_builder.specs.StandsFor.{StandsFor};
 ghost use Rattle.clif_builder.specs.Tracking.{RecordedFits};
 
@@ -51,10 +50,9 @@ impl<'a> FunctionBuilder<'a> {
     pub fn finalize(self, config: TargetFrontendConfig) -> Result<(), FinalizeError>
         ensures answer { Ends self.entry result }
         ensures ledger { (calls : List AnsweredCall) → AgreesWithLedger calls self.entry
-            → self.entry.failed ≡ false → TracksNothing (script_of calls)
-            → RefusalAgrees calls (refusal_of (ledger_of calls) Finalize) result }
-        ensures refused { (calls : List AnsweredCall) (refusal : Refusal) → AgreesWithLedger calls self.entry
-            → self.entry.failed ≡ false → IsRefused calls refusal → RefusalAgrees calls (Some refusal) result }
+            → self.entry.failed ≡ false
+            → EndsByLedger calls (refusal_of (ledger_of calls) Finalize) self.entry.func.now
+            (recorded_in self.entry) result }
         ensures same_meaning { (signature : SignatureShape) (calls : List AnsweredCall)
             → StandsFor signature calls self.entry
             → OnOk result (MeansTheSame (script_of calls) signature config.pointer_width (view_of self.exit.0.now)) }

@@ -136,5 +136,6 @@ pub fn create_exception_table(
 ) -> ExceptionTable
     ensures { table_held exception_tables builder.new result ≡ Some (exception_shape table) }
 {
+    asserts_signature(rt, builder, table.sig);
     builder.create_exception_table(table).expect(rt, "a table")
 }

@@ -6,16 +6,15 @@ use crate::outside::OutsideCall;
 use crate::switch::SwitchEntry;
 use crate::table::{TableEdge, TableItem, ThrowingCall};
 use clif_records::Variable;
-use clif_types::{
-    IntCC, JumpTable, MemFlagsData, SigRef, SourceLoc, StackSlot, TrapCode, Type, ValueLabel,
-};
+use clif_types::{IntCC, MemFlagsData, SourceLoc, TrapCode, Type, ValueLabel};
 
 /// An answer of an earlier call: which call, and which of its answers.
 ///
 /// An instruction answers its number and then its results, so answer 0 is the instruction and answer
 /// `k + 1` its result `k`. The two calls that append parameters by the function's signature answer these from
 /// 0 on. Every other call has at most answer 0. A call is misused if a name in it leads to no answer, or to one
-/// of another kind than the call takes.
+/// of another kind than the call takes. All but variables are named so: blocks, values, instructions, edges, stack slots,
+/// signatures, functions and tables. No name leads to what a memory helper imports, or to a table that a switch makes.
 #[derive(Clone, Copy, Debug, PartialEq, Eq)]
 pub struct Name {
     /// The place of the call in the script, from 0 on.
@@ -42,7 +41,7 @@ impl Drop for Edge {
 /// An instruction that neither branches nor ends its block, with names in place of values.
 ///
 /// Each variant is the instruction of its name. `Store`, `StackStore`, `Trapz` and `Trapnz` have no result, `Isplit`
-/// has two, and each other one has one. A stack slot is named by its number, and exists.
+/// has two, and each other one has one. A stack slot is an answer of [`EntryCall::CreateSizedStackSlot`].
 #[derive(Clone, Copy)]
 pub enum PlainInstruction {
     /// `iconst.ty imm`, at a type of integers.
@@ -193,19 +192,19 @@ pub enum PlainInstruction {
     /// `stack_addr.ty slot+offset`, at a type of integers.
     StackAddr {
         ty: Type,
-        slot: StackSlot,
+        slot: Name,
         offset: i32,
     },
     /// `stack_load.ty slot+offset`.
     StackLoad {
         ty: Type,
-        slot: StackSlot,
+        slot: Name,
         offset: i32,
     },
     /// `stack_store x, slot+offset`.
     StackStore {
         x: Name,
-        slot: StackSlot,
+        slot: Name,
         offset: i32,
     },
     /// `trapz c, code`, which traps if the operand is zero.
@@ -272,23 +271,31 @@ pub enum Call {
     BlockCall {
         edge: TableEdge,
     },
-    /// `create_jump_table(JumpTableData::new(default, entries))`: answers the table, which is numbered from 0 on. The
-    /// names are answers of [`Call::BlockCall`].
+    /// `create_jump_table(JumpTableData::new(default, entries))`: answers the table. The names are answers of
+    /// [`Call::BlockCall`].
     CreateJumpTable {
         default: Name,
         entries: Vec<Name>,
     },
-    /// `create_exception_table(ExceptionTableData { sig, normal, items })`: answers the table, which is numbered from 0
-    /// on. The names of edges are answers of [`Call::BlockCall`]; whether the signature was imported is asked only by the
-    /// call that the table serves.
+    /// `create_exception_table(ExceptionTableData { sig, normal, items })`: answers the table. The names of edges are
+    /// answers of [`Call::BlockCall`], and the signature is one that was imported.
     CreateExceptionTable {
-        signature: SigRef,
+        signature: Name,
         normal: Name,
         items: Vec<TableItem>,
     },
     /// `declare_var(ty)`: answers the variable, which is numbered from 0 on. The type is any but `Invalid`.
     DeclareVar {
         ty: Type,
+    },
+    /// `declare_var_needs_stack_map(variable)`: answers nothing. The variable is declared, was neither used nor assigned so
+    /// far, and has a type of 1 to 16 bytes.
+    DeclareVarNeedsStackMap {
+        variable: Variable,
+    },
+    /// `declare_value_needs_stack_map(value)`: answers nothing. The value has a type of 1 to 16 bytes.
+    DeclareValueNeedsStackMap {
+        value: Name,
     },
     /// `def_var(variable, value)`: answers nothing. The variable is declared, the value has its type, and
     /// there is a current block that isn't filled.
@@ -364,11 +371,11 @@ pub enum Call {
         block_else: Edge,
     },
     /// `br_table index, table`, an instruction without results, which fills the block: control goes along the entry whose
-    /// number the index is, and along the default where there is none. The table, which is known by its number, served no
-    /// instruction before, and no target of its edges is sealed.
+    /// number the index is, and along the default where there is none. The table served no instruction before, and no target of
+    /// its edges is sealed.
     BrTable {
         index: Name,
-        table: JumpTable,
+        table: Name,
     },
     /// `Switch::new`, `set_entry` for each entry, in this order, and `emit(value, otherwise)`: answers nothing, and fills the
     /// block, behind which there is no current one. Control goes to the block of the entry whose key the value is, as an
@@ -417,6 +424,8 @@ impl Drop for Call {
                 items: _,
             } => {}
             Call::DeclareVar { ty: _ } => {}
+            Call::DeclareVarNeedsStackMap { variable: _ } => {}
+            Call::DeclareValueNeedsStackMap { value: _ } => {}
             Call::DefVar {
                 variable: _,
                 value: _,

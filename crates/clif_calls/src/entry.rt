@@ -1,9 +1,47 @@
 //! The calls of a script that make entries of the function's tables.
-use clif_types::{DynamicStackSlotData, ExtFuncData, GlobalValueData, Signature};
+use crate::call::Name;
+use clif_types::{DynamicStackSlotData, ExternalName, GlobalValueData, Signature};
 use std::alloc::AllocError;
 
-/// A call that makes an entry of a table of the function. It answers the entry, which is known by its number: each table
-/// is numbered from 0 on, in the order of the calls.
+/// A function that is imported.
+pub struct ImportedFunction {
+    pub name: ExternalName,
+    /// An answer of [`EntryCall::ImportSignature`].
+    pub signature: Name,
+    /// Whether it lies so near that a short jump reaches it.
+    pub colocated: bool,
+    /// Whether its calls can be patched to go elsewhere.
+    pub patchable: bool,
+}
+
+// By hand: a derived one is proved anew at each way out of a function that holds such a value.
+impl Drop for ImportedFunction {
+    fn drop(self) {
+        let ImportedFunction {
+            name: _,
+            signature: _,
+            colocated: _,
+            patchable: _,
+        } = self;
+    }
+}
+
+impl Clone for ImportedFunction {
+    ghost use Rattle.std.specs.Prelude.{◌≡◌};
+
+    ghost is_clone = { λ old new. new ≡ old };
+
+    fn clone(&self) -> Result<ImportedFunction, AllocError> {
+        Ok(ImportedFunction {
+            name: self.name.clone()?,
+            signature: self.signature,
+            colocated: self.colocated,
+            patchable: self.patchable,
+        })
+    }
+}
+
+/// A call that makes an entry of a table of the function. It answers the entry.
 ///
 /// Each variant is the builder's method of its name.
 #[derive(Drop)]
@@ -16,8 +54,8 @@ pub enum EntryCall {
     CreateGlobalValue(GlobalValueData),
     /// `import_signature(signature)`.
     ImportSignature(Signature),
-    /// `import_function(function)`. The function's signature was imported.
-    ImportFunction(ExtFuncData),
+    /// `import_function(function)`. The signature was imported.
+    ImportFunction(ImportedFunction),
 }
 
 impl Clone for EntryCall {

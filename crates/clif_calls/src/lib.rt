@@ -11,12 +11,12 @@ mod plan;
 mod switch;
 mod table;
 
-pub use answer::OutsideAnswer;
+pub use answer::{Moves, OutsideAnswer};
 pub use call::{Call, Edge, Name, PlainInstruction};
-pub use entry::EntryCall;
+pub use entry::{EntryCall, ImportedFunction};
 pub use immediate::ImmediateCall;
 pub use memory::{MemoryCall, is_unsigned};
 pub use outside::OutsideCall;
 pub use plan::Plan;
-pub use switch::{SwitchEntry, table_count};
+pub use switch::SwitchEntry;
 pub use table::{Passed, TableEdge, TableItem, ThrowingCall};

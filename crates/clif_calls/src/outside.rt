@@ -3,22 +3,21 @@ ghost use Rattle.std.specs.Prelude.{◌≡◌, IfOk};
 ghost use Rattle.clif_calls.specs.Outside.{operands_of};
 
 use crate::call::Name;
-use clif_types::{FuncRef, SigRef};
 use std::alloc::{AllocError, Global};
 
 /// An instruction that calls what is outside the function, with names in place of values. Its results are what the
 /// signature of what it calls returns.
 ///
-/// Each variant is the instruction of its name. A function and a signature are named by their numbers, and were imported.
+/// Each variant is the instruction of its name. A function and a signature are answers of the calls that imported them.
 pub enum OutsideCall {
     /// `call function(x, ..)`: calls a function that was imported.
     Call {
-        function: FuncRef,
+        function: Name,
         args: Vec<Name>,
     },
     /// `call_indirect signature, callee(x, ..)`: calls what is at an address, by a signature that was imported.
     CallIndirect {
-        signature: SigRef,
+        signature: Name,
         callee: Name,
         args: Vec<Name>,
     },

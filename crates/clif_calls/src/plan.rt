@@ -6,7 +6,7 @@ use crate::call::{Edge, Name, PlainInstruction};
 use clif_opcodes::{
     BinaryOpcode, CondTrapOpcode, ConvertOpcode, FloatConstOpcode, StackOpcode, UnaryOpcode,
 };
-use clif_types::{IntCC, MemFlagsData, StackSlot, TrapCode, Type};
+use clif_types::{IntCC, MemFlagsData, TrapCode, Type};
 
 /// An instruction by its format: what it does, and the names of its operands and of its edges, in order.
 #[derive(Clone, Copy)]
@@ -71,13 +71,13 @@ pub enum Plan<'a> {
     StackLoad {
         opcode: StackOpcode,
         ty: Type,
-        slot: StackSlot,
+        slot: Name,
         offset: i32,
     },
     /// What is stored, and a place in a stack slot.
     StackStore {
         arg: Name,
-        slot: StackSlot,
+        slot: Name,
         offset: i32,
     },
     /// A reason, for which the function ends.
@@ -236,7 +236,7 @@ impl PlainInstruction {
     }
 
     /// The instruction with this opcode at a place in a stack slot, whose result has this type.
-    pub fn stack(opcode: StackOpcode, ty: Type, slot: StackSlot, offset: i32) -> PlainInstruction
+    pub fn stack(opcode: StackOpcode, ty: Type, slot: Name, offset: i32) -> PlainInstruction
         ensures { plan_of result ≡ Plan.StackLoad opcode ty slot offset }
     {
         match opcode {
@@ -299,7 +299,7 @@ fn two(opcode: BinaryOpcode, x: Name, y: Name) -> Plan<'static>
 }
 
 // A place in a stack slot, at a type.
-fn at_slot(opcode: StackOpcode, ty: Type, slot: StackSlot, offset: i32) -> Plan<'static>
+fn at_slot(opcode: StackOpcode, ty: Type, slot: Name, offset: i32) -> Plan<'static>
     ensures { result ≡ Plan.StackLoad opcode ty slot offset }
 {
     Plan::StackLoad {

@@ -3,7 +3,6 @@ ghost use Rattle.std.specs.Prelude.{◌≡◌, IfOk};
 ghost use Rattle.clif_calls.specs.Tables.{table_of, tried_operands};
 
 use crate::call::Name;
-use clif_types::{ExceptionTable, FuncRef};
 use std::alloc::{AllocError, Global};
 
 /// What an edge of a table passes to a parameter of its target.
@@ -46,21 +45,20 @@ pub enum TableItem {
 /// An instruction that calls what is outside the function, and goes along an edge of an exception table where the call
 /// returns or throws. It has no results.
 ///
-/// Each variant is the instruction of its name. A function is named by its number, and was imported; so was the table's
-/// signature. The table, which is known by its number, served no instruction before, and no target of its edges is
-/// sealed.
+/// Each variant is the instruction of its name. A function was imported, and so was the table's signature. The table served no
+/// instruction before, and no target of its edges is sealed.
 pub enum ThrowingCall {
     /// `try_call function(x, ..), table`: calls a function that was imported, by the signature of the table.
     TryCall {
-        function: FuncRef,
+        function: Name,
         args: Vec<Name>,
-        table: ExceptionTable,
+        table: Name,
     },
     /// `try_call_indirect callee(x, ..), table`: calls what is at an address, by the signature of the table.
     TryCallIndirect {
         callee: Name,
         args: Vec<Name>,
-        table: ExceptionTable,
+        table: Name,
     },
 }
 
@@ -103,7 +101,7 @@ impl ThrowingCall {
     }
 
     /// The table that serves it.
-    pub fn table(&self) -> ExceptionTable
+    pub fn table(&self) -> Name
         ensures { result ≡ table_of self.now }
     {
         match self {

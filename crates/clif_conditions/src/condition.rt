@@ -23,20 +23,18 @@ pub enum Condition {
     LeadsElsewhere(Name, usize),
     /// The variable isn't declared.
     NoVariable(usize),
-    /// The stack slot isn't there.
-    NoSlot(usize),
-    /// The jump table isn't there.
-    NoTable(usize),
-    /// The exception table isn't there.
-    NoExceptions(usize),
-    /// The signature isn't there.
-    NoSignature(usize),
-    /// The function isn't there.
-    NoFunction(usize),
-    /// The jump table serves another instruction.
-    Served(usize),
-    /// The exception table does.
-    ExceptionsServed(usize),
+    /// The name leads to no stack slot.
+    NoSlot(Name),
+    /// The name leads to no jump table.
+    NoTable(Name),
+    /// The name leads to no exception table.
+    NoExceptions(Name),
+    /// The name leads to no signature.
+    NoSignature(Name),
+    /// The name leads to no function.
+    NoFunction(Name),
+    /// The jump table or the exception table serves another instruction.
+    Served(Name),
     /// No block is current.
     NoCurrent,
     /// The block has a terminator.
@@ -55,6 +53,10 @@ pub enum Condition {
     Unplaced(usize),
     /// No variable can have this type.
     VariableType(Type),
+    /// The variable was used or assigned.
+    Touched(usize),
+    /// No stack map has room for a value of this type.
+    NoRoom(Type),
     /// The value doesn't have the variable's type.
     AssignedType(Type, Type),
     /// The alignment of a stack slot is too great.
@@ -94,14 +96,13 @@ impl fmt::Display for Condition {
                 write!(f, "${place}.{answer} doesn't lead to block{number}")
             }
             Condition::NoVariable(number) => write!(f, "var{number} isn't declared"),
-            Condition::NoSlot(number) => write!(f, "ss{number} isn't there"),
-            Condition::NoTable(number) => write!(f, "jt{number} isn't there"),
-            Condition::NoExceptions(number) => write!(f, "extable{number} isn't there"),
-            Condition::NoSignature(number) => write!(f, "sig{number} isn't there"),
-            Condition::NoFunction(number) => write!(f, "fn{number} isn't there"),
-            Condition::Served(number) => write!(f, "jt{number} serves another instruction"),
-            Condition::ExceptionsServed(number) => {
-                write!(f, "extable{number} serves another instruction")
+            Condition::NoSlot(name) => write_name(f, *name, "stack slot"),
+            Condition::NoTable(name) => write_name(f, *name, "jump table"),
+            Condition::NoExceptions(name) => write_name(f, *name, "exception table"),
+            Condition::NoSignature(name) => write_name(f, *name, "signature"),
+            Condition::NoFunction(name) => write_name(f, *name, "function"),
+            Condition::Served(Name { place, answer }) => {
+                write!(f, "${place}.{answer} serves another instruction")
             }
             Condition::NoCurrent => f.write_str("no block is current"),
             Condition::Filled(number) => write_block(f, *number, "is filled"),
@@ -112,6 +113,8 @@ impl fmt::Display for Condition {
             Condition::Placed(number) => write_block(f, *number, "is in the layout"),
             Condition::Unplaced(number) => write_block(f, *number, "isn't in the layout"),
             Condition::VariableType(ty) => write!(f, "no variable can have type {ty}"),
+            Condition::Touched(number) => write!(f, "var{number} was used or assigned"),
+            Condition::NoRoom(ty) => write!(f, "no stack map has room for {ty}"),
             Condition::AssignedType(wanted, found) => {
                 write!(f, "the variable has type {wanted}, and the value {found}")
             }

@@ -3,19 +3,17 @@ use crate::condition::Condition;
 use crate::ledger::Ledger;
 use clif_access_plans::{fits_pointer, may_move};
 use clif_calls::{
-    Call, Edge, EntryCall, ImmediateCall, MemoryCall, Name, OutsideCall, Passed, SwitchEntry,
+    Call, Edge, EntryCall, ImmediateCall, MemoryCall, Name, OutsideCall, Passed, Plan, SwitchEntry,
     TableEdge, TableItem, ThrowingCall, is_unsigned,
 };
 use clif_opcodes::{Demand, Opcode, PooledConstOpcode};
 use clif_operations::Operation;
+use clif_script_program::entries::{exceptions_named, table_named};
 use clif_script_program::instruction::{
     edge_count, edge_of, instruction_of, plan_of, with_constant_of,
 };
 use clif_types::types::I8;
-use clif_types::{
-    EntityRef, FuncRef, IntCC, JumpTable, LibCall, PointerWidth, SigRef, Signature, StackSlot,
-    TargetFrontendConfig, Type,
-};
+use clif_types::{EntityRef, IntCC, LibCall, PointerWidth, Signature, TargetFrontendConfig, Type};
 use std::alloc::{AllocError, Global};
 
 // TESTS: each answers the first condition that doesn't hold.
@@ -94,6 +92,15 @@ impl Ledger<'_> {
         Ok(())
     }
 
+    // A variable may be marked: it was neither used nor assigned, and stack maps have room for what it holds.
+    fn can_mark(&self, variable: usize) -> Result<(), Condition> {
+        let state = self.variable_state(variable)?;
+        if state.is_touched {
+            return Err(Condition::Touched(variable));
+        }
+        has_room(state.ty)
+    }
+
     fn can_lead(&self, edge: &Edge) -> Result<(), Condition> {
         let number = self.block(edge.block)?;
         self.is_unsealed(number)?;
@@ -128,14 +135,12 @@ impl Ledger<'_> {
         Ok(())
     }
 
-    // No target of the edges is sealed that the calls at these places answered.
-    fn can_serve(&self, places: &[usize]) -> Result<(), Condition> {
-        for place in places {
-            let (place, answer) = (*place, 0);
-            let edge = self.edge(Name { place, answer })?;
-            self.is_unsealed(self.block(edge.block)?)?;
+    // No target of the edge is sealed that a name leads to.
+    fn can_take(&self, edge: Option<Name>) -> Result<(), Condition> {
+        match edge {
+            Some(name) => self.is_unsealed(self.block(self.edge(name)?.block)?),
+            None => Ok(()),
         }
-        Ok(())
     }
 
     fn have_edges(&self, default: Name, entries: &[Name]) -> Result<(), Condition> {
@@ -146,10 +151,17 @@ impl Ledger<'_> {
         Ok(())
     }
 
-    fn can_branch(&self, index: Name, table: JumpTable) -> Result<(), Condition> {
+    fn can_branch(&self, index: Name, name: Name) -> Result<(), Condition> {
         self.is_open()?;
         self.value(index)?;
-        self.can_serve(self.table(table)?)
+        self.table(name)?;
+        let Some(table) = table_named(self.calls, name) else {
+            return Err(Condition::NoTable(name));
+        };
+        for number in 0..table.count() {
+            self.can_take(table.edge(number))?;
+        }
+        Ok(())
     }
 
     // A switch may be made: it goes by an integer, and no block that it leads to is sealed.
@@ -170,20 +182,6 @@ impl Ledger<'_> {
         Ok(())
     }
 
-    fn has_signature(&self, signature: SigRef) -> Result<(), Condition> {
-        match self.imports.signature(signature) {
-            Some(_) => Ok(()),
-            None => Err(Condition::NoSignature(signature.index())),
-        }
-    }
-
-    fn has_function(&self, function: FuncRef) -> Result<(), Condition> {
-        match self.imports.function(function) {
-            Some(_) => Ok(()),
-            None => Err(Condition::NoFunction(function.index())),
-        }
-    }
-
     // A call may be made along the edges of an exception table.
     fn can_try(&self, called: &ThrowingCall) -> Result<(), Condition> {
         self.is_open()?;
@@ -200,9 +198,18 @@ impl Ledger<'_> {
         for name in args.iter() {
             self.value(*name)?;
         }
-        let held = self.exceptions(called.table())?;
-        self.has_signature(held.signature)?;
-        self.can_serve(held.edges.as_slice())
+        let name = called.table();
+        self.exceptions(name)?;
+        let Some(table) = exceptions_named(self.calls, name) else {
+            return Err(Condition::NoExceptions(name));
+        };
+        self.can_take(table.edge(0))?;
+        for item in table.items {
+            if let TableItem::Tag(_, edge) | TableItem::Default(edge) = item {
+                self.can_take(Some(*edge))?;
+            }
+        }
+        Ok(())
     }
 
     // An outside call may be made.
@@ -307,7 +314,7 @@ impl Ledger<'_> {
             return Ok(());
         };
         self.is_open()?;
-        let instruction = instruction_of(&plan);
+        let instruction = instruction_of(&plan, &[]);
         for name in instruction.operands {
             self.value(*name)?;
         }
@@ -322,8 +329,8 @@ impl Ledger<'_> {
             instruction.operands,
         );
         can_operate(&instruction.operation, ty)?;
-        match slot_of(&instruction.operation) {
-            Some(slot) if slot >= self.slots => Err(Condition::NoSlot(slot)),
+        match &plan {
+            Plan::StackLoad { slot, .. } | Plan::StackStore { slot, .. } => self.slot(*slot),
             _ => Ok(()),
         }
     }
@@ -352,6 +359,8 @@ impl Ledger<'_> {
             Call::InsertBlockAfter { block, after } => self.can_insert(*block, *after),
             Call::SetColdBlock { block } => self.block(*block).map(|_| ()),
             Call::SetValLabel { value, .. } => self.value(*value).map(|_| ()),
+            Call::DeclareVarNeedsStackMap { variable } => self.can_mark(variable.index()),
+            Call::DeclareValueNeedsStackMap { value } => has_room(self.value(*value)?),
             Call::EnsureInsertedBlock => self.is_open(),
             Call::AppendBlockParam { block, .. }
             | Call::AppendBlockParamsForFunctionReturns { block } => {
@@ -370,8 +379,13 @@ impl Ledger<'_> {
                 self.have_edges(*default, entries.as_slice())
             }
             Call::BrTable { index, table } => self.can_branch(*index, *table),
-            Call::CreateExceptionTable { normal, items, .. } => {
-                self.have_items(*normal, items.as_slice())
+            Call::CreateExceptionTable {
+                signature,
+                normal,
+                items,
+            } => {
+                self.have_items(*normal, items.as_slice())?;
+                self.has_signature(*signature)
             }
             Call::Outside(called) => self.can_call(called),
             Call::Immediate(called) => self.can_take_constant(*called),
@@ -450,6 +464,14 @@ fn can_declare(ty: Type) -> Result<(), Condition> {
     }
 }
 
+// Stack maps have room for a value of 1 to 16 bytes.
+fn has_room(ty: Type) -> Result<(), Condition> {
+    match ty.bytes() {
+        1..=16 => Ok(()),
+        _ => Err(Condition::NoRoom(ty)),
+    }
+}
+
 // A constant has as many bytes as its type, which is a vector's unless it is the F128's.
 fn can_pool(opcode: PooledConstOpcode, ty: Type, bytes: &[u8]) -> Result<(), Condition> {
     let wanted = match opcode {
@@ -481,15 +503,6 @@ fn can_operate(operation: &Operation, ty: Type) -> Result<(), Condition> {
     } else {
         Err(Condition::MadeAt(operation.opcode(), ty))
     }
-}
-
-// The number of the stack slot that an instruction names.
-fn slot_of(operation: &Operation) -> Option<usize> {
-    let slot: &StackSlot = match operation {
-        Operation::Stack { slot, .. } | Operation::StackStore { slot, .. } => slot,
-        _ => return None,
-    };
-    Some(slot.index())
 }
 
 /// The first condition of the call at a place that doesn't hold, if the calls before it were made, for a function of

@@ -3,18 +3,14 @@ use crate::condition::Condition;
 use crate::switches::blocks_made;
 use clif_calls::{
     Call, EntryCall, ImmediateCall, MemoryCall, Name, OutsideCall, SwitchEntry, TableEdge,
-    TableItem, table_count,
 };
 use clif_opcodes::Control;
 use clif_operations::Operation;
 use clif_script_program::branches::Branches;
-use clif_script_program::exceptions::Exceptions;
-use clif_script_program::imports::Imports;
+use clif_script_program::entries::called_by;
 use clif_script_program::instruction::{instruction_of, plan_of, targets_of};
 use clif_types::types::{F128, I8};
-use clif_types::{
-    AbiParam, EntityRef, ExceptionTable, JumpTable, PointerWidth, SigRef, Signature, Type,
-};
+use clif_types::{AbiParam, EntityRef, PointerWidth, Signature, Type};
 use std::alloc::{AllocError, Global};
 
 /// An answer of a call.
@@ -24,6 +20,12 @@ pub(crate) enum Answer {
     Value(Type),
     Edge,
     Inst,
+    Slot,
+    Signature,
+    Function,
+    // whether it serves an instruction
+    Table(bool),
+    Exceptions(bool),
     Other,
 }
 
@@ -36,6 +38,14 @@ pub(crate) struct BlockState {
     pub(crate) is_placed: bool,
     // how many edges lead to it
     pub(crate) edges: usize,
+}
+
+/// What is known of a variable.
+#[derive(Clone, Copy)]
+pub(crate) struct VariableState {
+    pub(crate) ty: Type,
+    // whether it was used or assigned
+    pub(crate) is_touched: bool,
 }
 
 /// What may come to be known of a block.
@@ -73,13 +83,7 @@ pub(crate) struct Ledger<'a> {
     pub(crate) pointer_width: PointerWidth,
     answers: Vec<Vec<Answer>>,
     pub(crate) blocks: Vec<BlockState>,
-    variables: Vec<Type>,
-    pub(crate) slots: usize,
-    pub(crate) imports: Imports,
-    // for each jump table the places of the calls that answered its edges, until it serves an instruction
-    tables: Vec<Option<Vec<usize>>>,
-    // the exception tables, until they serve an instruction
-    exceptions: Vec<Option<Exceptions>>,
+    variables: Vec<VariableState>,
     pub(crate) branches: Branches,
     pub(crate) current: Option<usize>,
     pub(crate) entry: Option<usize>,
@@ -98,9 +102,7 @@ impl<'a> Ledger<'a> {
     pub(crate) fn block(&self, name: Name) -> Result<usize, Condition> {
         match self.answer(name) {
             Answer::Block(number) => Ok(number),
-            Answer::Value(_) | Answer::Edge | Answer::Inst | Answer::Other => {
-                Err(Condition::NoBlock(name))
-            }
+            _ => Err(Condition::NoBlock(name)),
         }
     }
 
@@ -115,9 +117,7 @@ impl<'a> Ledger<'a> {
     pub(crate) fn value(&self, name: Name) -> Result<Type, Condition> {
         match self.answer(name) {
             Answer::Value(ty) => Ok(ty),
-            Answer::Block(_) | Answer::Edge | Answer::Inst | Answer::Other => {
-                Err(Condition::NoValue(name))
-            }
+            _ => Err(Condition::NoValue(name)),
         }
     }
 
@@ -128,27 +128,52 @@ impl<'a> Ledger<'a> {
         }
     }
 
-    // The edges of a jump table that serves no instruction so far, by the places of the calls that answered them.
-    pub(crate) fn table(&self, table: JumpTable) -> Result<&[usize], Condition> {
-        match self.tables.get(table.index()) {
-            Some(Some(places)) => Ok(places.as_slice()),
-            Some(None) => Err(Condition::Served(table.index())),
-            None => Err(Condition::NoTable(table.index())),
+    pub(crate) fn slot(&self, name: Name) -> Result<(), Condition> {
+        match self.answer(name) {
+            Answer::Slot => Ok(()),
+            _ => Err(Condition::NoSlot(name)),
+        }
+    }
+
+    pub(crate) fn has_signature(&self, name: Name) -> Result<(), Condition> {
+        match self.answer(name) {
+            Answer::Signature => Ok(()),
+            _ => Err(Condition::NoSignature(name)),
+        }
+    }
+
+    pub(crate) fn has_function(&self, name: Name) -> Result<(), Condition> {
+        match self.answer(name) {
+            Answer::Function => Ok(()),
+            _ => Err(Condition::NoFunction(name)),
+        }
+    }
+
+    // A jump table that serves no instruction so far.
+    pub(crate) fn table(&self, name: Name) -> Result<(), Condition> {
+        match self.answer(name) {
+            Answer::Table(false) => Ok(()),
+            Answer::Table(true) => Err(Condition::Served(name)),
+            _ => Err(Condition::NoTable(name)),
         }
     }
 
     // An exception table that serves no instruction so far.
-    pub(crate) fn exceptions(&self, table: ExceptionTable) -> Result<&Exceptions, Condition> {
-        match self.exceptions.get(table.index()) {
-            Some(Some(held)) => Ok(held),
-            Some(None) => Err(Condition::ExceptionsServed(table.index())),
-            None => Err(Condition::NoExceptions(table.index())),
+    pub(crate) fn exceptions(&self, name: Name) -> Result<(), Condition> {
+        match self.answer(name) {
+            Answer::Exceptions(false) => Ok(()),
+            Answer::Exceptions(true) => Err(Condition::Served(name)),
+            _ => Err(Condition::NoExceptions(name)),
         }
     }
 
-    pub(crate) fn variable(&self, number: usize) -> Result<Type, Condition> {
+    pub(crate) fn variable_state(&self, number: usize) -> Result<VariableState, Condition> {
         let declared = self.variables.get(number).copied();
         declared.ok_or(Condition::NoVariable(number))
+    }
+
+    pub(crate) fn variable(&self, number: usize) -> Result<Type, Condition> {
+        self.variable_state(number).map(|state| state.ty)
     }
 
     pub(crate) fn block_count(&self) -> usize {
@@ -194,10 +219,6 @@ impl<'a> Ledger<'a> {
             answers: Vec::new(alloc),
             blocks: Vec::new(alloc),
             variables: Vec::new(alloc),
-            slots: 0,
-            imports: Imports::new(alloc, pointer_width),
-            tables: Vec::new(alloc),
-            exceptions: Vec::new(alloc),
             branches: Branches::new(alloc),
             current: None,
             entry: None,
@@ -222,24 +243,9 @@ impl<'a> Ledger<'a> {
         }
     }
 
-    // The places of the calls that answered the edges of the table that serves a call's instruction.
-    fn served_by(&self, call: &Call) -> &[usize] {
-        match call {
-            Call::BrTable { table, .. } => match self.table(*table) {
-                Ok(places) => places,
-                Err(_) => &[],
-            },
-            Call::Throwing(called) => match self.exceptions(called.table()) {
-                Ok(held) => held.edges.as_slice(),
-                Err(_) => &[],
-            },
-            _ => &[],
-        }
-    }
-
     // Adds where the edges of a call lead, before anything else of it changes.
     pub(crate) fn add_branch(&mut self, call: &'a Call) -> Result<(), AllocError> {
-        let blocks = targets_of(self.alloc, self.calls, call, self.served_by(call))?;
+        let blocks = targets_of(self.alloc, self.calls, call)?;
         let mut targets = Vec::new(self.alloc);
         for block in blocks.iter() {
             let target = match block {
@@ -272,6 +278,13 @@ impl<'a> Ledger<'a> {
             state.edges = state.edges.saturating_sub(changed);
         }
         self.reach(Some(target), changed);
+    }
+
+    // A variable is used or assigned.
+    fn touch(&mut self, number: usize) {
+        if let Some(state) = self.variables.get_mut(number) {
+            state.is_touched = true;
+        }
     }
 
     // Something is made in the current block, which puts it into the layout.
@@ -319,7 +332,7 @@ impl<'a> Ledger<'a> {
         answers.push(Answer::Inst)?;
         if let Some(plan) = plan_of(call) {
             self.begin();
-            let instruction = instruction_of(&plan);
+            let instruction = instruction_of(&plan, &[]);
             let operation = &instruction.operation;
             let ty = self.controlling(operation, instruction.given, instruction.operands);
             let typing = operation.opcode().typing();
@@ -339,7 +352,7 @@ impl<'a> Ledger<'a> {
         self.begin();
         let mut answers = Vec::new(self.alloc);
         answers.push(Answer::Inst)?;
-        if let Some(signature) = self.imports.called_by(called) {
+        if let Some(signature) = called_by(self.calls, called) {
             for param in signature.returns.iter() {
                 answers.push(Answer::Value(param.value_type))?;
             }
@@ -361,7 +374,6 @@ impl<'a> Ledger<'a> {
     // A memory helper is made, which answers a value if it compares. Where no bytes are copied or filled, nothing is.
     fn help(&mut self, called: &MemoryCall) -> Result<(), AllocError> {
         if !called.is_nothing() {
-            self.imports.add_called(called)?;
             self.begin();
         }
         match called.result() {
@@ -370,52 +382,13 @@ impl<'a> Ledger<'a> {
         }
     }
 
-    // An entry of a table is made.
-    fn add(&mut self, entry: &EntryCall) -> Result<(), AllocError> {
-        match entry {
-            EntryCall::CreateSizedStackSlot { .. } => self.slots = self.slots.saturating_add(1),
-            _ => self.imports.add(entry)?,
-        }
-        self.push(Answer::Other)
-    }
-
-    // A jump table of these edges is made.
-    fn add_table(&mut self, default: Name, entries: &[Name]) -> Result<(), AllocError> {
-        let mut places = Vec::new(self.alloc);
-        places.push(default.place)?;
-        for entry in entries {
-            places.push(entry.place)?;
-        }
-        self.tables.push(Some(places))?;
-        self.push(Answer::Other)
-    }
-
-    // An exception table is made.
-    fn add_exceptions(
-        &mut self,
-        signature: SigRef,
-        normal: Name,
-        items: &[TableItem],
-    ) -> Result<(), AllocError> {
-        let table = Exceptions::new(self.alloc, signature, normal, items)?;
-        self.exceptions.push(Some(table))?;
-        self.push(Answer::Other)
-    }
-
-    // A branch by a jump table is made, which serves it from now on.
-    fn branch(&mut self, table: JumpTable) -> Result<(), AllocError> {
+    // A branch by a table or a call along its edges is made, which it serves from now on.
+    fn serve(&mut self, table: Name, served: Answer) -> Result<(), AllocError> {
         self.begin();
-        if let Some(places) = self.tables.get_mut(table.index()) {
-            *places = None;
-        }
-        self.fill()
-    }
-
-    // The same for an exception table.
-    fn serve_exceptions(&mut self, table: ExceptionTable) -> Result<(), AllocError> {
-        self.begin();
-        if let Some(held) = self.exceptions.get_mut(table.index()) {
-            *held = None;
+        if let Some(answers) = self.answers.get_mut(table.place) {
+            if let Some(answer) = answers.get_mut(table.answer) {
+                *answer = served;
+            }
         }
         self.fill()
     }
@@ -428,16 +401,13 @@ impl<'a> Ledger<'a> {
         self.push(Answer::Inst)
     }
 
-    // A switch fills the current block, and makes blocks and jump tables of its own, which these serve. No block is current then.
+    // A switch fills the current block, and makes blocks of its own. No block is current then.
     fn switch(&mut self, entries: &[SwitchEntry], value: Name) -> Result<(), AllocError> {
         self.begin();
         if let Some(number) = self.current {
             self.mark(number, Mark::Filled);
         }
         self.current = None;
-        for _ in 0..table_count(self.alloc, entries)? {
-            self.tables.push(None)?;
-        }
         if let Ok(ty) = self.value(value) {
             for _ in 0..blocks_made(self.alloc, entries, ty)? {
                 self.blocks.push(MADE_BLOCK)?;
@@ -456,27 +426,30 @@ impl<'a> Ledger<'a> {
                 self.push(Answer::Block(number))
             }
             Call::DeclareVar { ty } => {
-                self.variables.push(*ty)?;
+                let (ty, is_touched) = (*ty, false);
+                self.variables.push(VariableState { ty, is_touched })?;
                 self.push(Answer::Other)
             }
-            Call::Entry(entry) => self.add(entry),
+            Call::Entry(entry) => self.push(match entry {
+                EntryCall::CreateSizedStackSlot { .. } => Answer::Slot,
+                EntryCall::ImportSignature(_) => Answer::Signature,
+                EntryCall::ImportFunction(_) => Answer::Function,
+                EntryCall::CreateDynamicStackSlot(_) | EntryCall::CreateGlobalValue(_) => {
+                    Answer::Other
+                }
+            }),
             Call::BlockCall { .. } => self.push(Answer::Edge),
-            Call::CreateJumpTable { default, entries } => {
-                self.add_table(*default, entries.as_slice())
-            }
-            Call::CreateExceptionTable {
-                signature: by,
-                normal,
-                items,
-            } => self.add_exceptions(*by, *normal, items.as_slice()),
-            Call::BrTable { table, .. } => self.branch(*table),
+            Call::CreateJumpTable { .. } => self.push(Answer::Table(false)),
+            Call::CreateExceptionTable { .. } => self.push(Answer::Exceptions(false)),
+            Call::BrTable { table, .. } => self.serve(*table, Answer::Table(true)),
             Call::Switch { entries, value, .. } => self.switch(entries.as_slice(), *value),
-            Call::Throwing(called) => self.serve_exceptions(called.table()),
+            Call::Throwing(called) => self.serve(called.table(), Answer::Exceptions(true)),
             Call::Outside(called) => self.call_outside(called),
             Call::Immediate(called) => self.take_constant(*called),
             Call::Memory(called) => self.help(called),
             Call::UseVar { variable } | Call::TryUseVar { variable } => {
                 self.begin();
+                self.touch(variable.index());
                 let ty = self.variable(variable.index()).unwrap_or(Type::Invalid);
                 self.push(Answer::Value(ty))
             }
@@ -499,9 +472,13 @@ impl<'a> Ledger<'a> {
             | Call::SetValLabel { .. }
             | Call::ChangeJumpDestination { .. }
             | Call::EnsureInsertedBlock
-            | Call::DefVar { .. }
-            | Call::TryDefVar { .. } => {
+            | Call::DeclareVarNeedsStackMap { .. }
+            | Call::DeclareValueNeedsStackMap { .. } => {
                 self.change_blocks(call);
+                self.push_values(&[])
+            }
+            Call::DefVar { variable, .. } | Call::TryDefVar { variable, .. } => {
+                self.touch(variable.index());
                 self.push_values(&[])
             }
             _ => self.make(call),

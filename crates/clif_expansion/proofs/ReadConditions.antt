@@ -3,6 +3,7 @@ use Rattle.std.proofs.Common.{◌≡◌, ℕ, zero, suc, Bool, true, false, cond
 use Rattle.std.specs.Prelude.{find, if◌then◌else◌, is_some, option_and_then, option_map, slice_get}
 use Rattle.std.specs.List.{AllZip, list_all, list_any}
 use Rattle.clif_tables.specs.Lists.{TableLists}
+use Rattle.clif_instructions.specs.Instruction.{ASignatureRef}
 use Rattle.clif_types.specs.Types.{is_type}
 use Rattle.clif_types.specs.declared.types.«Type».{«Type»}
 use Rattle.clif_tables.specs.Entries.{TableEntry}
@@ -317,7 +318,8 @@ module _ (reading : Reading) (plain ledger : Ledger) (ledgers : AreJoinedLedgers
   allowed (MakeEdge edge') (MakeEdge edge) is = λ i. block_same edge'.target edge.target is.target i && arguments_same edge' edge is i
   allowed (MakeJumpTable first names) (MakeJumpTable default entries) is = edges_same (first ∷ names) (default ∷ entries) is
   allowed (MakeExceptionTable number first listed) (MakeExceptionTable signature normal items) is =
-      ap₂ (λ (a b : Bool). a && b) (named_same first normal is.1) (all_same (IsReadTableItem reading) (has_item plain) (has_item ledger) item_same listed items is.2)
+      let listed_same = all_same (IsReadTableItem reading) (has_item plain) (has_item ledger) item_same listed items is.2 in
+      λ i. named_same first normal is.1 i && listed_same i && has_entry (ledgers.states.tables i) (ASignatureRef (is.0 i))
   allowed (Annotate inside names) (Annotate within values) is = λ i. (if is.0 i then opened i else true) && values_same names values is.1 i
   allowed (NeedStackMap asked_need) (NeedStackMap need) is = needed asked_need need is
   allowed (Build entries' instruction') (Build entries instruction) is = built entries' entries instruction' instruction is.0 is.1

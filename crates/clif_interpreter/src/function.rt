@@ -10,7 +10,7 @@ use clif_worlds::outside::{Payload, call_library, cut, show};
 use clif_worlds::run::Trace;
 use clif_worlds::{
     Callee, Cause, Choices, Collector, End, Ending, Event, Mover, Operand, Outside, Place,
-    RunError, World,
+    RunError, SlotRange, World,
 };
 use std::alloc::Global;
 
@@ -626,6 +626,50 @@ pub fn run_collected<'a, O: Outside>(
     Ok(state.ended(end))
 }
 
+/// Where those stack slots of a function lie in a world that come behind so many others: behind those that the calls made, the
+/// slots in which it keeps what moves.
+///
+/// # Errors
+///
+/// Where a stack slot has no place, and where memory is refused.
+pub fn slots_behind<O>(
+    alloc: Global,
+    func: &Function,
+    world: &World<'_, O>,
+    count: usize,
+) -> Result<Vec<SlotRange>, RunError> {
+    match placed(alloc, func, world, count) {
+        Ok(ranges) => Ok(ranges),
+        Err(cause) => Err(cause.at(Place::Start)),
+    }
+}
+
+fn placed<O>(
+    alloc: Global,
+    func: &Function,
+    world: &World<'_, O>,
+    count: usize,
+) -> Result<Vec<SlotRange>, Cause> {
+    let store = store_of(alloc, func, world)?;
+    let mut ranges = Vec::new(alloc);
+    for range in store.slots.ranges().iter().skip(count) {
+        ranges.push(*range)?;
+    }
+    Ok(ranges)
+}
+
+// Memory as a run begins, with the function's stack slots in it.
+fn store_of<O>(alloc: Global, func: &Function, world: &World<'_, O>) -> Result<Store, Cause> {
+    let mut store = world.store(alloc)?;
+    let tables = func.tables();
+    for number in 0..tables.stack_slot_count() {
+        if let Some(slot) = tables.stack_slot(StackSlot::new(number)) {
+            store.add_slot(slot.size(), slot.align_shift())?;
+        }
+    }
+    Ok(store)
+}
+
 // A run before its first step.
 fn begin<'a, O: Outside>(
     alloc: Global,
@@ -637,18 +681,11 @@ fn begin<'a, O: Outside>(
     for _ in 0..func.value_count() {
         values.push(None)?;
     }
-    let mut store = world.store(alloc)?;
-    let tables = func.tables();
-    for number in 0..tables.stack_slot_count() {
-        if let Some(slot) = tables.stack_slot(StackSlot::new(number)) {
-            store.add_slot(slot.size(), slot.align_shift())?;
-        }
-    }
     Ok(State {
         alloc,
         func,
         values,
-        store,
+        store: store_of(alloc, func, world)?,
         pointer_width: world.pointer_width,
         outside: world.outside,
         collector,

@@ -7,4 +7,5 @@
 #![tactic(auto)]
 
 pub mod function;
+mod premises;
 pub mod script;

@@ -1,21 +1,30 @@
 //! The interpreter of scripts, written from the script machine: it runs the variable program of a script. It has
 //! variables and names of answers, and no aliases and no parameters of variables.
+use crate::premises::{check_marks, check_targets};
 use clif_calls::{
-    Call, Edge, ImmediateCall, MemoryCall, Name, OutsideCall, Passed, TableEdge, ThrowingCall,
+    Call, Edge, ImmediateCall, MemoryCall, Name, OutsideCall, Passed, TableEdge, TableItem,
+    ThrowingCall,
 };
 use clif_operations::{Fault, Operation, Outcome, Store, Typed, bits_of, carry_out, kept};
+use clif_script_program::entries::{
+    Exceptions, called_by, edge_named, exceptions_named, function_named, signature_named,
+    table_named,
+};
 use clif_script_program::instruction::{
     Edges, Instruction, branch_by_table, byte_operation_of, constant_of, edge_of, instruction_of,
     operands_of, plan_of, with_constant_of,
 };
 use clif_script_program::program::{Program, ProgramBlock};
-use clif_types::{
-    AbiParam, EntityRef, ExceptionTable, ExternalName, PointerWidth, Signature, Type,
-};
+use clif_types::{AbiParam, EntityRef, ExternalName, PointerWidth, SigRef, Signature, Type};
 use clif_worlds::outside::{Payload, call_library, cut, show};
 use clif_worlds::run::Trace;
-use clif_worlds::{Callee, Cause, End, Ending, Event, Operand, Outside, Place, RunError, World};
+use clif_worlds::{
+    Beside, Callee, Cause, End, Ending, Event, Mover, Operand, Outside, Place, RunError, World,
+};
 use std::alloc::{AllocError, Global};
+
+// How many signatures there can be.
+const MOST_SIGNATURES: usize = 0xffff_ffff;
 
 /// What comes behind an item.
 #[derive(Drop)]
@@ -40,6 +49,7 @@ struct State<'s, 'p, 'o, O> {
     store: Store,
     pointer_width: PointerWidth,
     outside: &'o O,
+    mover: Option<Mover>,
     events: Vec<Event>,
     // what a function of the C library gave a try call, for its normal edge
     given: Option<Typed>,
@@ -59,6 +69,7 @@ impl<O> Drop for State<'_, '_, '_, O> {
             store: _,
             pointer_width: _,
             outside: _,
+            mover: _,
             events: _,
             given: _,
             trace: _,
@@ -204,13 +215,13 @@ impl<O: Outside> State<'_, '_, '_, O> {
     fn follow_exception(
         &mut self,
         place: usize,
-        table: ExceptionTable,
+        table: Exceptions<'_>,
         number: usize,
         payload: Payload<'_>,
     ) -> Result<Next, Cause> {
-        let program = self.program;
-        let edge = program.exception_edge(self.calls, table, number);
-        self.follow_table(program.target(place, number), edge, payload)
+        let calls = self.calls;
+        let edge = table.edge(number).and_then(|edge| edge_named(calls, edge));
+        self.follow_table(self.program.target(place, number), edge, payload)
     }
 
     // Gives bits to the results of the instruction at a place, which are its answers from 1 on.
@@ -259,7 +270,8 @@ impl<O: Outside> State<'_, '_, '_, O> {
                     Edges::None => self.follow(target, None),
                     Edges::Own(plan) => self.follow(target, edge_of(plan, number)),
                     Edges::Table(table) => {
-                        let edge = program.table_edge(self.calls, table, number);
+                        let calls = self.calls;
+                        let edge = table.edge(number).and_then(|edge| edge_named(calls, edge));
                         self.follow_table(target, edge, Payload::None)
                     }
                 }
@@ -281,6 +293,7 @@ impl<O: Outside> State<'_, '_, '_, O> {
             store,
             pointer_width: _,
             outside: _,
+            mover: _,
             events,
             given: _,
             trace,
@@ -345,6 +358,45 @@ impl<O: Outside> State<'_, '_, '_, O> {
         Ok(arguments)
     }
 
+    // Shows an outside call, and moves what it moves. The answer is the item with an edge that it goes along, if it throws.
+    fn show(&mut self, event: Event, items: usize) -> Result<Option<usize>, Cause> {
+        let thrown = show(
+            self.outside,
+            &mut self.events,
+            event,
+            items,
+            &mut self.store.memory,
+        )?;
+        if let Some(mover) = self.mover {
+            self.collect(mover);
+        }
+        Ok(thrown)
+    }
+
+    // Moves the marked variables and the tracked names.
+    fn collect(&mut self, mover: Mover) {
+        let calls = self.events.len();
+        let tracking = &self.program.tracking;
+        for (number, held) in self.variables.iter_mut().enumerate() {
+            if tracking.is_marked(number) {
+                held.bits = mover.moved(held.ty, held.bits, calls);
+            }
+        }
+        for name in tracking.names() {
+            self.move_name(mover, *name, calls);
+        }
+    }
+
+    // Moves what a name holds, if it was given.
+    fn move_name(&mut self, mover: Mover, name: Name, calls: usize) {
+        let Some(answers) = self.names.get_mut(name.place) else {
+            return;
+        };
+        if let Some(Some(held)) = answers.get_mut(name.answer) {
+            held.bits = mover.moved(held.ty, held.bits, calls);
+        }
+    }
+
     // Shows the outside call at a place, which gives its results.
     fn answered(
         &mut self,
@@ -352,13 +404,7 @@ impl<O: Outside> State<'_, '_, '_, O> {
         event: Event,
         signature: &Signature,
     ) -> Result<Next, Cause> {
-        show(
-            self.outside,
-            &mut self.events,
-            event,
-            0,
-            &mut self.store.memory,
-        )?;
+        self.show(event, 0)?;
         for (index, param) in signature.returns.iter().enumerate() {
             let bits = self.outside.value(self.events.as_slice(), index);
             let ty = param.value_type;
@@ -369,15 +415,26 @@ impl<O: Outside> State<'_, '_, '_, O> {
         Ok(Next::Item)
     }
 
+    // What is called at an address, by the signature that a name leads to.
+    fn at_address(&mut self, callee: Name, signature: Name) -> Result<Callee, Cause> {
+        let Some(number) = self.program.number(signature) else {
+            return Err(Cause::NoFunction);
+        };
+        if number >= MOST_SIGNATURES {
+            return Err(Cause::NoFunction);
+        }
+        Ok(Callee::AtAddress(self.value(callee)?.bits, SigRef::new(number)))
+    }
+
     // Makes the outside call at a place.
     fn call_outside(&mut self, place: usize, called: &OutsideCall) -> Result<Next, Cause> {
-        let program = self.program;
-        let Some(signature) = program.imports.called_by(called) else {
+        let calls = self.calls;
+        let Some(signature) = called_by(calls, called) else {
             return Err(Cause::NoFunction);
         };
         match called {
             OutsideCall::Call { function, args } => {
-                let Some(data) = program.imports.function(*function) else {
+                let Some(data) = function_named(calls, *function) else {
                     return Err(Cause::NoFunction);
                 };
                 let arguments = self.arguments(signature, args.as_slice())?;
@@ -388,7 +445,7 @@ impl<O: Outside> State<'_, '_, '_, O> {
                 callee,
                 args,
             } => {
-                let callee = Callee::AtAddress(self.value(*callee)?.bits, *number);
+                let callee = self.at_address(*callee, *number)?;
                 let arguments = self.arguments(signature, args.as_slice())?;
                 self.answered(place, Event { callee, arguments }, signature)
             }
@@ -425,17 +482,10 @@ impl<O: Outside> State<'_, '_, '_, O> {
         place: usize,
         event: Event,
         signature: &Signature,
-        table: ExceptionTable,
+        table: Exceptions<'_>,
     ) -> Result<Next, Cause> {
-        let items = self.program.exceptions.edges(table).len().saturating_sub(1);
-        let thrown = show(
-            self.outside,
-            &mut self.events,
-            event,
-            items,
-            &mut self.store.memory,
-        )?;
-        match thrown {
+        let items = table.count().saturating_sub(1);
+        match self.show(event, items)? {
             Some(item) => {
                 self.follow_exception(place, table, item.saturating_add(1), Payload::Thrown)
             }
@@ -453,7 +503,7 @@ impl<O: Outside> State<'_, '_, '_, O> {
         name: &ExternalName,
         signature: &Signature,
         arguments: Vec<u128>,
-        table: ExceptionTable,
+        table: Exceptions<'_>,
     ) -> Result<Next, Cause> {
         if let ExternalName::LibCall(callee) = name {
             let value = call_library(
@@ -474,26 +524,28 @@ impl<O: Outside> State<'_, '_, '_, O> {
     // Makes the try call at a place, by the signature of its table. The promise asks that the contexts are given before it, though
     // nothing reads them.
     fn try_call(&mut self, place: usize, called: &ThrowingCall) -> Result<Next, Cause> {
-        let (program, table) = (self.program, called.table());
-        let (Some(held), Some(signature)) = (
-            program.exceptions.get(table),
-            program.exception_signature(table),
-        ) else {
+        let calls = self.calls;
+        let Some(table) = exceptions_named(calls, called.table()) else {
             return Err(Cause::NoFunction);
         };
-        for name in held.contexts.iter() {
-            self.value(*name)?;
+        let Some(signature) = signature_named(calls, table.signature) else {
+            return Err(Cause::NoFunction);
+        };
+        for item in table.items {
+            if let TableItem::Context(name) = item {
+                self.value(*name)?;
+            }
         }
         match called {
             ThrowingCall::TryCall { function, args, .. } => {
-                let Some(data) = program.imports.function(*function) else {
+                let Some(data) = function_named(calls, *function) else {
                     return Err(Cause::NoFunction);
                 };
                 let arguments = self.arguments(signature, args.as_slice())?;
                 self.try_named(place, &data.name, signature, arguments, table)
             }
             ThrowingCall::TryCallIndirect { callee, args, .. } => {
-                let callee = Callee::AtAddress(self.value(*callee)?.bits, held.signature);
+                let callee = self.at_address(*callee, table.signature)?;
                 let arguments = self.arguments(signature, args.as_slice())?;
                 self.tried(place, Event { callee, arguments }, signature, table)
             }
@@ -513,11 +565,17 @@ impl<O: Outside> State<'_, '_, '_, O> {
             return self.instruct(place, &constant, Edges::None);
         }
         if let Call::BrTable { index, table } = call {
-            let branch = branch_by_table(self.program.table_len(*table), index);
-            return self.instruct(place, &branch, Edges::Table(*table));
+            let Some(table) = table_named(self.calls, *table) else {
+                return Err(Cause::NoTarget);
+            };
+            let branch = branch_by_table(table.count(), index);
+            return self.instruct(place, &branch, Edges::Table(table));
         }
+        let numbers = self.program.numbers.as_slice();
         match plan_of(call) {
-            Some(plan) => self.instruct(place, &instruction_of(&plan), Edges::Own(&plan)),
+            Some(plan) => {
+                self.instruct(place, &instruction_of(&plan, numbers), Edges::Own(&plan))
+            }
             None => Ok(Next::Item),
         }
     }
@@ -623,49 +681,14 @@ fn no_answers(alloc: Global, program: &Program) -> Result<Vec<Vec<Option<Typed>>
     Ok(names)
 }
 
-// Why the theorem covers no branch to a block, if it covers none: the block has a terminator and isn't the entry.
-fn bad_target(program: &Program, target: Option<usize>) -> Option<Cause> {
-    let Some(number) = target else {
-        return Some(Cause::NoTarget);
-    };
-    if program.entry == Some(number) {
-        return Some(Cause::EntryTarget);
-    }
-    match program.block(number) {
-        Some(block) if block.is_filled => None,
-        Some(_) => Some(Cause::NotFilled),
-        None => Some(Cause::NoTarget),
-    }
-}
-
-// The same of the edges of the call at a place.
-fn bad_branch(program: &Program, place: usize) -> Option<Cause> {
-    for target in program.targets(place) {
-        let bad = bad_target(program, *target);
-        if bad.is_some() {
-            return bad;
-        }
-    }
-    None
-}
-
-// Looks at each edge of a script, also at those that no run takes: the theorem asks it of all of them.
-fn check_targets(program: &Program, calls: usize) -> Result<(), RunError> {
-    for place in 0..calls {
-        if let Some(cause) = bad_branch(program, place) {
-            return Err(cause.at(Place::Call(place)));
-        }
-    }
-    Ok(())
-}
-
-/// Runs a script's variable program in a world, for at most so many instructions, uses and assignments.
+/// Runs a script's variable program in a world, for at most so many instructions, uses and assignments. Nothing moves.
 ///
 /// # Errors
 ///
 /// Where a premise of the theorem doesn't hold of the run: a branch leads to the entry block or to a block without a
-/// terminator, a name has no value yet, types don't fit, what a load, a store or a memory helper claims isn't true, or a function of
-/// the C library can't do its work. And where memory is refused, a value has more than 128 bits, or a stack slot has no place.
+/// terminator, a variable that isn't marked gets or gives a tracked name, a name has no value yet, types don't fit, what a load, a
+/// store or a memory helper claims isn't true, or a function of the C library can't do its work. And where memory is refused, a
+/// value has more than 128 bits, a stack slot has no place, or a call throws to an item that isn't there.
 pub fn run<O: Outside>(
     alloc: Global,
     calls: &[Call],
@@ -673,13 +696,30 @@ pub fn run<O: Outside>(
     world: &World<'_, O>,
     bound: u64,
 ) -> Result<Ending, RunError> {
-    let program = match Program::of(alloc, calls, signature, world.pointer_width) {
+    run_beside(alloc, calls, signature, world, &Beside::NOTHING, bound)
+}
+
+/// Runs a script's variable program as [`run`] does, beside a collector and a finished function.
+///
+/// # Errors
+///
+/// Those of [`run`], and where an access touches a stack slot that only the function has.
+pub fn run_beside<O: Outside>(
+    alloc: Global,
+    calls: &[Call],
+    signature: &Signature,
+    world: &World<'_, O>,
+    beside: &Beside<'_>,
+    bound: u64,
+) -> Result<Ending, RunError> {
+    let program = match Program::of(alloc, calls, signature) {
         Ok(program) => program,
         Err(_) => return Err(RunError::memory()),
     };
     check_targets(&program, calls.len())?;
+    check_marks(&program, calls)?;
     let entry = program.entry;
-    let mut state = match begin(alloc, signature, &program, calls, world) {
+    let mut state = match begin(alloc, signature, &program, calls, world, beside) {
         Ok(state) => state,
         Err(cause) => return Err(cause.at(Place::Start)),
     };
@@ -700,10 +740,14 @@ fn begin<'s, 'p, 'o, O: Outside>(
     program: &'p Program,
     calls: &'p [Call],
     world: &World<'o, O>,
+    beside: &Beside<'_>,
 ) -> Result<State<'s, 'p, 'o, O>, Cause> {
     let mut store = world.store(alloc)?;
     for (size, shift) in program.slots.iter() {
         store.add_slot(*size, *shift)?;
+    }
+    for slot in beside.hidden {
+        store.memory.hide(*slot)?;
     }
     Ok(State {
         alloc,
@@ -715,6 +759,7 @@ fn begin<'s, 'p, 'o, O: Outside>(
         store,
         pointer_width: world.pointer_width,
         outside: world.outside,
+        mover: beside.mover,
         events: Vec::new(alloc),
         given: None,
         trace: world.trace(alloc),

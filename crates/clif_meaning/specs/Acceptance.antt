@@ -149,7 +149,7 @@ allows ledger (MakeEntry entry) = can_make ledger.tables entry
 allows ledger (MakeEdge edge) = has_block ledger edge.target && list_all (has_argument ledger) edge.arguments
 allows ledger (MakeJumpTable default entries) = list_all (λ name. is_some (edge_named ledger name)) (default ∷ entries)
 allows ledger (MakeExceptionTable signature normal items) =
-    is_some (edge_named ledger normal) && list_all (has_item ledger) items
+    is_some (edge_named ledger normal) && list_all (has_item ledger) items && has_entry ledger.tables (ASignatureRef signature)
 allows ledger (Annotate inside values) = (if inside then is_open ledger ledger.current else true) && list_all (has_value ledger) values
 allows ledger (NeedStackMap need) = may_need ledger need
 allows ledger (Build entries instruction) =

@@ -81,8 +81,8 @@ pub record TryExamples : Type 0 where
   pub served_twice : verdict_on (table_script ++ tries ∷ SwitchToBlock (block 1) ∷ tries ∷ []) ≡ Misuse 15
   -- a target is sealed between table and call
   pub sealed : verdict_on (table_script ++ SealBlock (block 2) ∷ tries ∷ []) ≡ Misuse 14
-  -- a signature that wasn't imported is asked for by the call alone
-  pub not_imported : verdict_on (table_script ++ MakeExceptionTable 1 (answer_of 8 0) [] ∷ try_call (ledger_after (table_script ++ MakeExceptionTable 1 (answer_of 8 0) [] ∷ [])) 0 (answer_of 3 0 ∷ []) 1 ∷ []) ≡ Misuse 14
+  -- a signature that wasn't imported
+  pub not_imported : verdict_on (table_script ++ MakeExceptionTable 1 (answer_of 8 0) [] ∷ []) ≡ Misuse 13
   -- an item that names a block, and one whose context is no value
   pub no_edge : verdict_on (table_script ++ MakeExceptionTable 0 (answer_of 8 0) (TagTo 7 (block 2) ∷ []) ∷ []) ≡ Misuse 13
   pub no_context : verdict_on (table_script ++ MakeExceptionTable 0 (answer_of 8 0) (InContext (block 2) ∷ []) ∷ []) ≡ Misuse 13

@@ -23,6 +23,8 @@ pub enum Fault {
     NotAligned,
     /// A byte isn't accessible, and the flag `notrap` claims that it is.
     NotAccessible,
+    /// A byte is hidden: it lies in a stack slot that only the finished function has.
+    Hidden,
     /// An instruction doesn't give as many results as it has.
     Results,
     /// A function of the C library touches a byte that isn't accessible.
@@ -53,6 +55,7 @@ impl Fault {
             Fault::Returned => "the returned values don't fit the signature",
             Fault::NotAligned => "the address isn't aligned, as the flag aligned claims",
             Fault::NotAccessible => "a byte isn't accessible, as the flag notrap claims",
+            Fault::Hidden => "a byte lies in a stack slot that only the function has",
             Fault::LibraryBytes =>
                 "a function of the C library touches a byte that isn't accessible",
             Fault::Overlap => "Memcpy copies between bytes that overlap",

@@ -15,7 +15,7 @@ pub mod with_constant;
 pub use bytes::{ByteOperation, Promise};
 pub use fault::Fault;
 pub use library::{LibraryCall, is_library_signature, library_result, library_signature};
-pub use memory::{Memory, Slots};
+pub use memory::{Memory, SlotRange, Slots};
 pub use operation::{Operation, Outcome, Store, Typed, bits_of, carry_out, kept};
 pub use switch::SwitchMap;
 pub use with_constant::WithConstant;

@@ -98,7 +98,11 @@ impl LibraryCall {
         let mut places = Vec::new(alloc);
         let size = u64::try_from(self.size).unwrap_or(u64::MAX);
         for byte in 0..size {
-            let Some(place) = memory.place_of(address.wrapping_add(u128::from(byte)) & mask) else {
+            let at = address.wrapping_add(u128::from(byte)) & mask;
+            if memory.is_hidden(at) {
+                return Err(Fault::Hidden);
+            }
+            let Some(place) = memory.place_of(at) else {
                 return Err(Fault::LibraryBytes);
             };
             places.push(place)?;
@@ -148,8 +152,8 @@ impl LibraryCall {
     ///
     /// # Errors
     ///
-    /// `LibraryBytes` where it touches a byte that isn't accessible, `Overlap` where `Memcpy` copies between bytes that
-    /// overlap, and `Memory` where memory is refused.
+    /// `Hidden` where it touches a byte that is hidden, `LibraryBytes` where it touches one that isn't accessible, `Overlap` where
+    /// `Memcpy` copies between bytes that overlap, and `Memory` where memory is refused.
     pub fn run(&self, alloc: Global, memory: &mut Memory) -> Result<u128, Fault> {
         let first = self.places(alloc, memory, self.first)?;
         let first = first.as_slice();

@@ -5,11 +5,26 @@ use crate::library::pointer_type;
 use clif_types::{EntityRef, MemFlagsData, PointerWidth, StackSlot, TrapCode, Type};
 use std::alloc::{AllocError, Global};
 
-/// The accessible bytes, which lie one after another from an address on. No other byte is accessible.
+/// The accessible bytes, which lie one after another from an address on. No other byte is accessible. Some of them may be hidden:
+/// those of stack slots that only the other one of two runs has.
 #[derive(Clone, PartialEq, Eq, Drop)]
 pub struct Memory {
     start: u64,
     bytes: Vec<u8>,
+    hidden: Vec<SlotRange>,
+}
+
+/// The addresses of a stack slot: from one up to another, which isn't among them.
+#[derive(Clone, Copy, PartialEq, Eq)]
+pub struct SlotRange {
+    start: u64,
+    end: u64,
+}
+
+impl SlotRange {
+    fn contains(self, address: u128) -> bool {
+        u128::from(self.start) <= address && address < u128::from(self.end)
+    }
 }
 
 /// An access: of what type, where, and what is claimed of it.
@@ -51,7 +66,38 @@ impl Memory {
         for _ in 0..size {
             bytes.push(0)?;
         }
-        Ok(Memory { start, bytes })
+        let hidden = Vec::new(alloc);
+        Ok(Memory {
+            start,
+            bytes,
+            hidden,
+        })
+    }
+
+    /// Hides the bytes of a stack slot. An access to one of them is a fault from now on.
+    ///
+    /// # Errors
+    ///
+    /// `AllocError`, where memory is refused.
+    pub fn hide(&mut self, slot: SlotRange) -> Result<(), AllocError> {
+        self.hidden.push(slot)?;
+        Ok(())
+    }
+
+    // Whether the byte at an address is hidden.
+    pub(crate) fn is_hidden(&self, address: u128) -> bool {
+        self.hidden.iter().any(|slot| slot.contains(address))
+    }
+
+    /// The address of the first byte in which it differs from memory that begins at the same address. Hidden bytes aren't compared.
+    pub fn first_difference(&self, other: &Memory) -> Option<u64> {
+        for (place, (one, two)) in self.bytes.iter().zip(other.bytes.iter()).enumerate() {
+            let address = self.start.saturating_add(place as u64);
+            if *one != *two && !self.is_hidden(u128::from(address)) {
+                return Some(address);
+            }
+        }
+        None
     }
 
     /// The address of the first accessible byte.
@@ -106,8 +152,11 @@ impl Memory {
         self.get(place)
     }
 
-    // What becomes of an access before it is made. What is claimed is asked first.
+    // What becomes of an access before it is made. What is hidden is asked first, and then what is claimed.
     fn allows(&self, access: &Access) -> Result<(), Stop> {
+        if (0..access.ty.bytes()).any(|byte| self.is_hidden(access.byte_address(byte))) {
+            return Err(Stop::Fault(Fault::Hidden));
+        }
         if access.flags.aligned() && !access.is_aligned() {
             return Err(Stop::Fault(Fault::NotAligned));
         }
@@ -149,7 +198,7 @@ impl Memory {
 #[derive(Drop)]
 pub struct Slots {
     pointer: Type,
-    places: Vec<u64>,
+    ranges: Vec<SlotRange>,
     next: u64,
 }
 
@@ -158,44 +207,51 @@ impl Slots {
     pub fn new(alloc: Global, pointer: PointerWidth, start: u64) -> Slots {
         Slots {
             pointer: pointer_type(pointer),
-            places: Vec::new(alloc),
+            ranges: Vec::new(alloc),
             next: start,
         }
+    }
+
+    /// Where the slots so far lie, in order.
+    pub fn ranges(&self) -> &[SlotRange] {
+        self.ranges.as_slice()
     }
 
     /// Places one more slot, of so many bytes, whose address is a multiple of 2 to the power of `shift`. It ends at most
     /// at `limit`, where accessible memory ends.
     pub(crate) fn add(&mut self, size: u32, shift: u8, limit: u128) -> Result<(), Fault> {
-        let Some((place, end)) = placed(self.next, size, shift) else {
+        let Some(range) = placed(self.next, size, shift) else {
             return Err(Fault::NoPlace);
         };
+        let end = u128::from(range.end);
         let above = greatest(self.pointer).saturating_add(1);
-        if u128::from(end) > above || u128::from(end) > limit {
+        if end > above || end > limit {
             return Err(Fault::NoPlace);
         }
-        self.places.push(place)?;
-        self.next = end;
+        self.ranges.push(range)?;
+        self.next = range.end;
         Ok(())
     }
 
     /// An access to a slot, which claims nothing. Its address counts modulo the width of pointers.
     pub(crate) fn access(&self, ty: Type, slot: StackSlot, offset: i32) -> Result<Access, Fault> {
-        let Some(place) = self.places.get(slot.index()) else {
+        let Some(range) = self.ranges.get(slot.index()) else {
             return Err(Fault::NoPlace);
         };
         Ok(Access {
             ty,
             address_type: self.pointer,
-            address: u128::from(*place),
+            address: u128::from(range.start),
             offset,
             flags: MemFlagsData::new(),
         })
     }
 }
 
-// Where a slot begins that lies at an address or behind it, and where it ends.
-fn placed(next: u64, size: u32, shift: u8) -> Option<(u64, u64)> {
+// Where a slot lies that begins at an address or behind it.
+fn placed(next: u64, size: u32, shift: u8) -> Option<SlotRange> {
     let align = 1u64.checked_shl(u32::from(shift))?.max(1);
-    let place = next.checked_add(align - 1)? / align * align;
-    Some((place, place.checked_add(u64::from(size))?))
+    let start = next.checked_add(align - 1)? / align * align;
+    let end = start.checked_add(u64::from(size))?;
+    Some(SlotRange { start, end })
 }

@@ -5,3 +5,4 @@ pub mod SparseSet
 pub mod Stacks
 pub mod Copying
 pub mod OnePage
+pub mod Linked

@@ -5,3 +5,4 @@ pub mod Pages
 pub mod Stacks
 pub mod Tracking
 pub mod Lends
+pub mod Waiting

@@ -1,15 +1,13 @@
 -- The tables of the construction. Source: Braun et al. 2013 (records, sealed blocks, incomplete
 -- parameters), and the crate's documentation of its SSA builder.
-use Rattle.std.specs.Prelude.{ℕ, ◌+◌, ◌-◌, ◌^◌, ◌==◌, Bool, true, false, List, [], Option, None, slice_index_or, if◌then◌else◌}
+use Rattle.std.specs.Prelude.{ℕ, ◌+◌, ◌-◌, ◌^◌, ◌==◌, Bool, true, false, List, [], Option, Some, None, slice_index_or, if◌then◌else◌, ◌≡◌, refl}
+use Rattle.std.proofs.Common.{ap}
 use Rattle.std.specs.Ordering.{nat_cmp, on, then_cmp}
 use Rattle.std.specs.declared.cmp.Ordering.{Ordering}
 use Rattle.std.specs.Option.{unwrap_or}
 use Rattle.std.specs.FinMap as map
-use Rattle.std.specs.Coded.{Coded, code_by, coded×, coded_option, coded_ℕ}
+use Rattle.std.specs.Coded.{Coded, code_by, coded×, coded_list, coded_option, coded_ℕ}
 use Rattle.clif_records.specs.declared.tables.Pending.{Pending}
-use Rattle.clif_records.specs.declared.tables.Sealed.{Sealed}
-use Rattle.clif_records.specs.declared.tables.Sealed.TheVariants.{No, Yes}
-use Rattle.clif_records.specs.declared.tables.SsaBlock.{SsaBlock}
 -- what is known of a variable in a block: the value that it is recorded to have at the block's end, if one is recorded,
 -- and how many look-ups of it in the block's predecessors began
 pub use Rattle.clif_records.specs.declared.tables.Recorded.{Recorded}
@@ -46,7 +44,38 @@ lookups_at records variable block = (recorded_at records variable block).lookups
 abbrev pub one_more : ℕ → ℕ
 one_more n = if n == 2 ^ 32 - 1 then n else n + 1
 
--- what is known of a block; it is unsealed at first, and nothing leads to it
+-- whether all branches that lead to a block are known; which parameters wait until they are, in the order in which they were made
+pub data Sealed : Type 0 where
+  No : List Pending → Sealed
+  Yes : Sealed
+
+-- what is known of a block: the branches that lead to it, in the order in which they were declared, and whether it is sealed
+pub record SsaBlock : Type 0 where
+  pub predecessors : List ℕ
+  pub sealed : Sealed
+
+-- how the logic stores what is known of a block: as lists of numbers
+abbrev pub pending_code : Coded Pending
+pending_code = code_by (ℕ × ℕ) (coded× coded_ℕ coded_ℕ) (λ p. (p.variable, p.param)) (λ p. record { variable = p.0; param = p.1 }) (λ p i. p)
+
+abbrev pub waiting_in : Sealed → Option (List Pending)
+waiting_in (No pending) = Some pending
+waiting_in Yes = None
+
+abbrev pub sealed_from : Option (List Pending) → Sealed
+sealed_from (Some pending) = No pending
+sealed_from None = Yes
+
+pub sealed_back : (s : Sealed) → sealed_from (waiting_in s) ≡ s
+sealed_back (No pending) = refl
+sealed_back Yes = refl
+
+abbrev pub ssa_block_code : Coded SsaBlock
+ssa_block_code =
+    code_by (List ℕ × Option (List Pending)) (coded× (coded_list coded_ℕ) (coded_option (coded_list pending_code))) (λ b. (b.predecessors, waiting_in b.sealed))
+    (λ p. record { predecessors = p.0; sealed = sealed_from p.1 }) (λ b. ap (λ (s : Sealed). let known : SsaBlock = record { predecessors = b.predecessors; sealed = s } in known) (sealed_back b.sealed))
+
+-- what is known of a block at first: it is unsealed, and nothing leads to it
 abbrev pub no_ssa_block : SsaBlock
 no_ssa_block = record { predecessors = []; sealed = No [] }
 

@@ -5,16 +5,16 @@ ghost use Rattle.clif_instructions.specs.Members.{Stands, place_of, stands_in, w
 ghost use Rattle.std.specs.FinMap as map;
 ghost use Rattle.clif_records.specs.Pages.{ChangesCell, IsAtHand, added_by, is_nothing, kept_at, page_number, place_in_page, recorded_in};
 ghost use Rattle.clif_records.specs.Records.{recording, counting, HasEntry, RecordsIn, RecordsUpTo, RecordsSome};
-ghost use Rattle.clif_records.specs.Tables.{recorded_at, record_at, lookups_at, one_more, known_at, sealed_at, predecessors_at, sealed_predecessors_at, is_yes, pending_of};
+ghost use Rattle.clif_records.specs.Tables.{No, Yes, recorded_at, record_at, lookups_at, one_more, known_at, sealed_at, predecessors_at, sealed_predecessors_at, is_yes, pending_of};
 
 use crate::runs::put_run;
 use crate::variable::Variable;
+use crate::waiting::{PendingList, PendingTable};
 use clif_types::{Block, BuildError, EntityRef, Inst, Value};
 use smallvec::SmallVec;
 use std::alloc::Global;
 use std::collections::HashMap;
 use std::marker::Model;
-use std::mem;
 
 /// What is known of a variable in a block.
 #[derive(Clone, Copy, Debug, PartialEq, Eq)]
@@ -36,49 +36,6 @@ const NOTHING_RECORDED: Recorded = Recorded {
 pub struct Pending {
     pub variable: Variable,
     pub param: Value,
-}
-
-/// The parameters that wait in a block, in the order in which they were made.
-#[derive(Debug, Drop)]
-pub struct PendingList {
-    items: Vec<Pending>,
-}
-
-impl Model for PendingList {
-    ghost use Rattle.std.specs.Prelude.{List};
-    ghost use Rattle.clif_records.specs.declared.tables.Pending.{Pending};
-
-    ghost Value = { List Pending };
-
-    ghost view = { λ l. l.items.items };
-}
-
-impl PendingList {
-    /// No parameter waits.
-    pub(crate) fn new(alloc: Global) -> Self
-        ensures { result ≡ [] }
-    {
-        PendingList {
-            items: Vec::new(alloc),
-        }
-    }
-
-    /// The parameters that wait, in order.
-    pub fn as_slice(&self) -> &[Pending]
-        ensures { result.now ≡ self.now }
-    {
-        self.items.as_slice()
-    }
-
-    /// Puts a parameter behind the others. After an error the list is as it was.
-    pub(crate) fn push(&mut self, variable: Variable, param: Value) -> Result<(), BuildError>
-        ensures ok { OnOk result (self.new ≡ self.old ++ record { variable = variable; param = param } ∷ []) }
-        ensures err { OnErr result (self.new ≡ self.old) }
-        ensures only_memory { OnErr result (result ≡ Err BuildError.Memory) }
-    {
-        self.items.push(Pending { variable, param })?;
-        Ok(())
-    }
 }
 
 /// What a page keeps of a variable in one of its blocks, in eight bytes.
@@ -490,15 +447,6 @@ impl VariableTable {
     }
 }
 
-/// Whether a block is sealed.
-#[derive(Debug, Drop)]
-pub enum Sealed {
-    /// It may still get predecessors; these parameters wait until it is sealed.
-    No { undef_variables: PendingList },
-    /// All its predecessors are known.
-    Yes,
-}
-
 /// The branches that lead to a block, in the order in which they were declared.
 #[derive(Debug)]
 pub struct Predecessors {
@@ -573,48 +521,69 @@ impl Predecessors {
     }
 }
 
+/// Whether a block is sealed, and where in the table of what waits its last parameter is.
+#[derive(Clone, Copy, Debug)]
+pub(crate) enum RowState {
+    /// It may still get predecessors. The place is 0 where no parameter waits until it is sealed.
+    Unsealed { last: u32 },
+    /// All its predecessors are known.
+    Sealed,
+}
+
 /// What the construction knows of a block.
 #[derive(Debug)]
-pub struct SsaBlock {
-    /// The branches that lead to it.
-    pub predecessors: Predecessors,
-    /// Whether these are all, and which parameters wait where they aren't.
-    pub sealed: Sealed,
+pub(crate) struct BlockRow {
+    // The branches that lead to it.
+    predecessors: Predecessors,
+    // Whether these are all.
+    state: RowState,
 }
 
 // By hand: a derived one is proved anew at each way out of a function that holds such a value.
-impl Drop for SsaBlock {
+impl Drop for BlockRow {
     fn drop(self) {
-        let SsaBlock {
+        let BlockRow {
             predecessors: _,
-            sealed: _,
+            state: _,
         } = self;
     }
 }
 
-/// What the construction knows of each block.
+/// What the construction knows of each block: a row a block, and one table of the parameters that wait in all of
+/// them, which is emptied as soon as no block has one.
 #[derive(Debug)]
 pub struct BlockTable {
-    blocks: Vec<SsaBlock>,
+    rows: Vec<BlockRow>,
+    pending: PendingTable,
+    // In how many blocks parameters wait.
+    waiting: usize,
 }
 
 // By hand: a derived one is proved anew at each way out of a function that holds such a value.
 impl Drop for BlockTable {
     fn drop(self) {
-        let BlockTable { blocks: _ } = self;
+        let BlockTable {
+            rows: _,
+            pending: _,
+            waiting: _,
+        } = self;
     }
 }
 
 impl Model for BlockTable {
-    ghost use Rattle.std.specs.Prelude.{List};
-    ghost use Rattle.clif_records.specs.declared.tables.SsaBlock.{SsaBlock};
-    ghost use Rattle.std.specs.Prelude.{◌<◌, ◌^◌, length};
+    ghost use Rattle.std.specs.Prelude.{List, map};
+    ghost use Rattle.std.specs.Coded.{coded_list};
+    ghost use Rattle.clif_records.specs.Tables.{SsaBlock, ssa_block_code};
 
     ghost Value = { List SsaBlock };
 
-    ghost view = { λ t. t.blocks.items };
+    ghost coded = { coded_list ssa_block_code };
 
-    ghost invariant = { λ t. length t.blocks.items < 2 ^ 32 };
+    ghost use Rattle.clif_records.specs.Waiting.{IsBlockTable, known_of};
+
+    ghost view = { λ t. map (known_of t.pending) t.rows.items };
+
+    ghost invariant = { λ t. IsBlockTable t.rows.items t.pending t.waiting };
 }
 
 impl BlockTable {
@@ -623,7 +592,9 @@ impl BlockTable {
         ensures { result ≡ [] }
     {
         BlockTable {
-            blocks: Vec::new(alloc),
+            rows: Vec::new(alloc),
+            pending: PendingTable::new(alloc),
+            waiting: 0,
         }
     }
 
@@ -631,14 +602,16 @@ impl BlockTable {
     pub fn clear(&mut self)
         ensures { self.new ≡ [] }
     {
-        self.blocks.clear();
+        self.rows.clear();
+        self.pending.clear();
+        self.waiting = 0;
     }
 
     /// Whether no block was ever declared.
     pub fn is_empty(&self) -> bool
         ensures { IsTrue result ↔ (self.now ≡ []) }
     {
-        self.blocks.is_empty()
+        self.rows.is_empty()
     }
 
     /// How many blocks there is room for.
@@ -646,15 +619,15 @@ impl BlockTable {
         ensures exact { result ≡ length self.now }
         ensures bounded { result < 2 ^ 32 }
     {
-        self.blocks.len()
+        self.rows.len()
     }
 
     /// Whether a block is sealed.
     pub fn is_sealed(&self, block: Block) -> bool
         ensures { result ≡ is_yes (sealed_at self.now block) }
     {
-        match self.blocks.get(block.index()) {
-            Some(known) => matches!(known.sealed, Sealed::Yes),
+        match self.rows.get(block.index()) {
+            Some(row) => matches!(row.state, RowState::Sealed),
             None => false,
         }
     }
@@ -663,8 +636,8 @@ impl BlockTable {
     pub fn predecessors(&self, block: Block) -> &[Inst]
         ensures { result.now ≡ predecessors_at self.now block }
     {
-        match self.blocks.get(block.index()) {
-            Some(known) => known.predecessors.as_slice(),
+        match self.rows.get(block.index()) {
+            Some(row) => row.predecessors.as_slice(),
             None => &[],
         }
     }
@@ -673,10 +646,10 @@ impl BlockTable {
     pub fn sealed_predecessors(&self, block: Block) -> &[Inst]
         ensures { result.now ≡ sealed_predecessors_at self.now block }
     {
-        match self.blocks.get(block.index()) {
+        match self.rows.get(block.index()) {
             Some(
-                SsaBlock {
-                    sealed: Sealed::Yes,
+                BlockRow {
+                    state: RowState::Sealed,
                     predecessors,
                 },
             ) => predecessors.as_slice(),
@@ -696,17 +669,15 @@ impl BlockTable {
         ensures no_more { (length self.new ≤ length self.old) ⊎ (length self.new ≤ block + 1) }
         ensures only_memory { OnErr result (result ≡ Err BuildError.Memory) }
     {
-        if block.index() < self.blocks.len() {
+        if block.index() < self.rows.len() {
             return Ok(());
         }
-        let alloc = *self.blocks.allocator();
-        let missing = (block.index() + 1).saturating_sub(self.blocks.len());
+        let alloc = *self.rows.allocator();
+        let missing = (block.index() + 1).saturating_sub(self.rows.len());
         for _ in 0..missing {
-            self.blocks.push(SsaBlock {
+            self.rows.push(BlockRow {
                 predecessors: Predecessors::new(alloc),
-                sealed: Sealed::No {
-                    undef_variables: PendingList::new(alloc),
-                },
+                state: RowState::Unsealed { last: 0 },
             })?;
         }
         Ok(())
@@ -726,7 +697,7 @@ impl BlockTable {
         ensures only_memory { OnErr result (result ≡ Err BuildError.Memory) }
     {
         self.declare(block)?;
-        self.blocks[block.index()].predecessors.push(branch)
+        self.rows[block.index()].predecessors.push(branch)
     }
 
     /// Takes a branch away from those that lead to a block; the others keep their order.
@@ -736,9 +707,7 @@ impl BlockTable {
         ensures ok { (b : ℕ) → predecessors_at self.new b ≡ (if b == block then without branch (predecessors_at self.old b) else predecessors_at self.old b) }
         ensures no_more { length self.new ≤ length self.old }
     {
-        if let Some(known) = self.blocks.get_mut(block.index()) {
-            known.predecessors.remove(branch);
-        }
+        self.rows[block.index()].predecessors.remove(branch);
     }
 
     /// Puts a parameter behind those that wait in an unsealed block.
@@ -749,17 +718,20 @@ impl BlockTable {
     #[inline(always)]
     pub fn wait(&mut self, block: Block, variable: Variable, param: Value) -> Result<(), BuildError>
         requires { is_yes (sealed_at self.old block) ≡ false }
-        ensures ok { OnOk result ((b : ℕ) → sealed_at self.new b ≡ (if b == block then Sealed.No (pending_of (sealed_at self.old b) ++ record { variable = variable; param = param } ∷ []) else sealed_at self.old b)) }
+        ensures ok { OnOk result ((b : ℕ) → sealed_at self.new b ≡ (if b == block then No (pending_of (sealed_at self.old b) ++ record { variable = variable; param = param } ∷ []) else sealed_at self.old b)) }
         ensures err { OnErr result ((b : ℕ) → sealed_at self.new b ≡ sealed_at self.old b) }
         ensures predecessors { (b : ℕ) → predecessors_at self.new b ≡ predecessors_at self.old b }
         ensures no_more { (length self.new ≤ length self.old) ⊎ (length self.new ≤ block + 1) }
         ensures only_memory { OnErr result (result ≡ Err BuildError.Memory) }
     {
         self.declare(block)?;
-        match &mut self.blocks[block.index()].sealed {
-            Sealed::No { undef_variables } => undef_variables.push(variable, param),
-            Sealed::Yes => unreachable!(),
-        }
+        let RowState::Unsealed { last } = self.rows[block.index()].state else {
+            unreachable!()
+        };
+        let place = self.pending.push(variable, param, last)?;
+        self.rows[block.index()].state = RowState::Unsealed { last: place };
+        self.waiting += usize::from(last == 0);
+        Ok(())
     }
 
     /// Seals a block, and answers the parameters that waited in it.
@@ -769,7 +741,7 @@ impl BlockTable {
     /// `Memory`, where memory is refused. Each block is as it was then.
     pub fn seal(&mut self, block: Block) -> Result<PendingList, BuildError>
         ensures pending { IfOk result (λ l. l ≡ pending_of (sealed_at self.old block)) }
-        ensures ok { OnOk result ((b : ℕ) → sealed_at self.new b ≡ (if b == block then Sealed.Yes else sealed_at self.old b)) }
+        ensures ok { OnOk result ((b : ℕ) → sealed_at self.new b ≡ (if b == block then Yes else sealed_at self.old b)) }
         ensures known { OnOk result (block < length self.new) }
         ensures err { OnErr result ((b : ℕ) → sealed_at self.new b ≡ sealed_at self.old b) }
         ensures predecessors { (b : ℕ) → predecessors_at self.new b ≡ predecessors_at self.old b }
@@ -777,10 +749,15 @@ impl BlockTable {
         ensures only_memory { OnErr result (result ≡ Err BuildError.Memory) }
     {
         self.declare(block)?;
-        let alloc = *self.blocks.allocator();
-        match mem::replace(&mut self.blocks[block.index()].sealed, Sealed::Yes) {
-            Sealed::No { undef_variables } => Ok(undef_variables),
-            Sealed::Yes => Ok(PendingList::new(alloc)),
+        let RowState::Unsealed { last } = self.rows[block.index()].state else {
+            return Ok(PendingList::new(*self.rows.allocator()));
+        };
+        let waited = self.pending.list_to(last)?;
+        self.rows[block.index()].state = RowState::Sealed;
+        self.waiting -= usize::from(last != 0);
+        if self.waiting == 0 {
+            self.pending.clear();
         }
+        Ok(waited)
     }
 }

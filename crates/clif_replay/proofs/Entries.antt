@@ -1,5 +1,12 @@
 -- What the ledger says of an entry that a call makes, the builder says too.
 use Rattle.std.proofs.Common.{◌≡◌, ℕ, List, [], ◌∷◌, ap, refl, sym, ◌∙◌}
+use Rattle.std.specs.Prelude.{Result, Ok, Err}
+use Rattle.clif_types.specs.declared.error.BuildError.{BuildError}
+use Rattle.clif_calls.specs.declared.entry.EntryCall.{EntryCall}
+use Rattle.clif_calls.specs.declared.entry.EntryCall.TheVariants as called
+use Rattle.clif_resolution.specs.Entries.{Numbers}
+use Rattle.clif_resolution.specs.declared.answers.Entry.{Entry}
+use Rattle.clif_replay.specs.Entries.{count_with, entry_as, entry_in, entry_made}
 use Rattle.clif_types.specs.Signature.{SignatureShape}
 use Rattle.clif_tables.specs.Entries.{TableEntry, AStackSlot, ADynamicStackSlot, AGlobalValue, ASignature, AFunction, count_for}
 use Rattle.clif_tables.specs.Lists.{TableLists}
@@ -35,6 +42,31 @@ entry-same calls b answers ready entry = ap (λ (tables : TableLists). can_make 
 
 -- and is answered by its number
 pub entry-answered : {naming : Naming} {declared : SignatureShape} (calls : List AnsweredCall) (b : FunctionBuilder) (answers : List Answer) → IsReady naming declared calls b answers
-    → (entry : TableEntry) (number : ℕ) → number ≡ count_for b.func.now.tables entry → AnswerIs answer.Entry (answers_to (ledger_of calls) (MakeEntry entry)) (number ∷ [])
-entry-answered calls b answers ready entry number is =
-    (entry, number, ap (λ (n : ℕ). AnEntry entry n ∷ []) (ap (λ (tables : TableLists). count_for tables entry) ready.stands.ledger.tables ∙ count-aside b.func.now.tables entry ∙ sym is), refl)
+    → (made : TableEntry) (number : ℕ) → number ≡ count_for b.func.now.tables made
+    → AnswerIs (answer.Entry (entry_as (AnEntry made number))) (answers_to (ledger_of calls) (MakeEntry made)) (number ∷ [])
+entry-answered calls b answers ready made number is = (
+  AnEntry made number,
+  number,
+  ap (λ (n : ℕ). AnEntry made n ∷ []) (ap (λ (tables : TableLists). count_for tables made) ready.stands.ledger.tables ∙ count-aside b.func.now.tables made ∙ sym is),
+  refl,
+  refl,
+  refl,
+)
+
+-- an entry of a kind, whatever is told of it, has the same table
+pub same-table : (tables : TableLists) (numbers : Numbers) (call : EntryCall) → count_for tables (entry_in numbers call) ≡ count_with tables call
+same-table tables numbers (called.CreateSizedStackSlot size align_shift) = refl
+same-table tables numbers (called.CreateDynamicStackSlot slot) = refl
+same-table tables numbers (called.CreateGlobalValue value) = refl
+same-table tables numbers (called.ImportSignature signature) = refl
+same-table tables numbers (called.ImportFunction function) = refl
+
+-- what was made, where the result is a number
+pub made-entry : (made : TableEntry) (told : Result ℕ BuildError) (entry : Entry) → ◌≡◌ {A = Result Entry BuildError} (Ok entry) (entry_made made told)
+    → (number : ℕ) × (told ≡ Ok number) × (entry ≡ entry_as (AnEntry made number))
+made-entry made (Ok number) entry is = (number, refl, cc)
+made-entry made (Err error) entry is = let no_way : ⊥ = cc in absurd no_way
+
+pub failed-entry : (made : TableEntry) (told : Result ℕ BuildError) (error : BuildError) → ◌≡◌ {A = Result Entry BuildError} (Err error) (entry_made made told) → told ≡ Err error
+failed-entry made (Ok number) error is = let no_way : ⊥ = cc in absurd no_way
+failed-entry made (Err other) error is = cc

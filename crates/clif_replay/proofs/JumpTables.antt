@@ -3,7 +3,7 @@ use Rattle.std.proofs.Common.{◌≡◌, ℕ, zero, suc, List, [], ◌∷◌, �
 use Rattle.std.specs.Prelude.{◌↔◌, IsTrue, map, slice_get, slice_set, Option, Some, None, is_some, option_and_then, option_map, Bool, true, false, ◌&&◌, Result, Ok, Err}
 use Rattle.std.specs.List.{All, cons_option, list_all}
 use Rattle.std.proofs.lemmas.Bool.{and_from, and_parts, and_right, not-true}
-use Rattle.std.proofs.lemmas.Option.{same_Some, slice_get_within}
+use Rattle.std.proofs.lemmas.Option.{same_Some, slice_get_past, slice_get_within}
 use Rattle.clif_types.specs.declared.error.BuildError.{BuildError}
 use Rattle.clif_types.specs.declared.error.BuildError.TheVariants.{Failed, Full}
 use Rattle.clif_types.specs.declared.types.«Type».TheVariants.{Invalid}
@@ -11,7 +11,7 @@ use Rattle.clif_types.specs.Signature.{SignatureShape}
 use Rattle.clif_instructions.specs.declared.block_call.BlockArg.{BlockArg}
 use Rattle.clif_instructions.specs.declared.block_call.BlockArg.TheVariants as arg
 use Rattle.clif_instructions.specs.declared.block_call.BlockCall.{BlockCall}
-use Rattle.clif_tables.specs.Lists.{with_jump_table}
+use Rattle.clif_tables.specs.Lists.{unserved, with_jump_table}
 use Rattle.clif_nodes.specs.declared.nodes.ValueNode.{ValueNode}
 use Rattle.clif_ir.specs.Body.{Body, inst_at}
 use Rattle.clif_ir.specs.Consistent.{PassedExists}
@@ -36,6 +36,7 @@ use Rattle.clif_calls.specs.declared.table.Passed.TheVariants as passed
 use Rattle.clif_calls.specs.declared.table.TableEdge.{TableEdge}
 use Rattle.clif_resolution.specs.declared.answers.Answer.{Answer}
 use Rattle.clif_resolution.specs.declared.answers.Answer.TheVariants as answer
+use Rattle.clif_resolution.specs.declared.answers.Entry.TheVariants as entry
 use Rattle.clif_replay.specs.Requests.{Naming, passed_of, table_edge_of}
 use Rattle.clif_resolution.specs.Conditions.{IsEdge, can_seal, has_edge, is_open, serves, serves_at}
 use Rattle.clif_replay.specs.Ready.{IsReady, IsReadyAfter, TableAgrees, TablesAgree}
@@ -229,6 +230,12 @@ branch-same {naming} calls b answers ready index table = by (table_edges b table
 pub branch-closed : (b : FunctionBuilder) (value : Bool) (table : ℕ) → is_open b ≡ false → ((is_open b && value) && serves b table) ≡ false
 branch-closed b value table closed = ap (λ (test : Bool). (test && value) && serves b table) closed
 
+-- there is no table at the next number
+pub none-serves : (b : FunctionBuilder) → serves b (length b.func.now.tables.jump_tables) ≡ false
+none-serves b =
+    ap (λ (o : Option (Option (List BlockCall))). serves_at b (unserved o))
+    (slice_get_past b.func.now.tables.jump_tables (length b.func.now.tables.jump_tables) (omega arith))
+
 pub branch-missing : (b : FunctionBuilder) (o : Option ℕ) (table : ℕ) → o ≡ None → ((is_open b && is_some o) && serves b table) ≡ false
 branch-missing b o table none =
     ap (λ (test : Bool). test && serves b table) (and_right (is_open b) (is_some o) (ap is_some none))
@@ -345,10 +352,11 @@ edge-ready law {naming} {declared} calls old new answers edge found made ready i
 -- a table was made
 pub table-ready : TableCallsAddNothing → {naming : Naming} {declared : SignatureShape} (calls : List AnsweredCall) (old new : FunctionBuilder) (answers : List Answer) (default : Name) (entries : List Name)
     (edges : List BlockCall) (number : ℕ) → IsReady naming declared calls old answers → map (edge_at answers) (default ∷ entries) ≡ map Some edges → CreatesJumpTable edges old new (Ok number)
-    → IsReadyAfter naming declared calls (MakeJumpTable (naming default) (map naming entries)) new answers answer.Table
+    → IsReadyAfter naming declared calls (MakeJumpTable (naming default) (map naming entries)) new answers (answer.Entry (entry.JumpTable number))
 table-ready law {naming} {declared} calls old new answers default entries edges number ready found creates = (
   number ∷ [],
-  ready-answered calls call old new answers answer.Table ready stands (number, ap (λ (n : ℕ). AJumpTable n ∷ []) (sym counts), refl)
+  ready-answered calls call old new answers (answer.Entry (entry.JumpTable number)) ready stands
+      (AJumpTable number, number, ap (λ (n : ℕ). AJumpTable n ∷ []) (sym counts), refl, refl, refl)
       (λ made same. let no_way : ⊥ = cc in absurd no_way) tables
       (exceptions-still calls call old new answers ready stands refl (ap (λ (f : Body). f.tables.exception_tables) creates.sets.function)),
 )

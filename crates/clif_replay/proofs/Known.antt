@@ -55,8 +55,10 @@ use Rattle.clif_replay.specs.Replayed.{ArePlainCalls, IsOfWidth}
 use Rattle.clif_replay.proofs.HelperLines.{line-of, may-made}
 use Rattle.clif_replay.proofs.Narrowing.{narrowed, narrowed-emission}
 use Rattle.clif_replay.proofs.Nowhere.{AreAnswered, AreDenied, IsNowhere, emitted, nowhere, read-answered, told}
-use Rattle.clif_replay.proofs.ReadCalls.{AreReadTables, emission-read, helper-read, request-read, switch-read, type-read, type-same}
+use Rattle.clif_replay.proofs.ReadCalls.{AreReadTables, emission-read, entry-read, helper-read, numbers-read, request-read, switch-read, type-read, type-same}
 use Rattle.clif_replay.proofs.Unanswered.{AreUnanswered, emitted-alike, generated-read, importing-read, still-unanswered}
+use Rattle.clif_resolution.specs.Entries.{number_in}
+use Rattle.clif_replay.specs.Entries.{entry_as, numbers_in}
 use Rattle.clif_replay.proofs.Whole.{whole, whole-joined, whole-later, whole-made, whole-one, whole-past}
 
 -- what holds of all elements of a list with one more holds of those before it, and of the last one
@@ -134,6 +136,10 @@ module _ (naming : Naming) (count : ℕ) (plain : Script) (script : List ScriptC
 
   tables-read : AreReadTables wide plain_ledger ledger
   tables-read = record {
+    entries = λ table x name is. elim (each x name is) [
+      | inl read ↦ entry-read table all (answer_at plain_ledger x) (answer_at ledger name) (all-joined.answers x name read)
+      | inr gone ↦ ap (option_and_then (λ (answered : Answered). number_in table (entry_as answered))) (gone.0.unanswered ∙ sym gone.1.unanswered)
+    ];
     types = λ x name is. elim (each x name is) [
       | inl read ↦ type-read all (answer_at plain_ledger x) (answer_at ledger name) (all-joined.answers x name read)
       | inr gone ↦ ap value_answer_type (gone.0.unanswered ∙ sym gone.1.unanswered)
@@ -153,6 +159,10 @@ module _ (naming : Naming) (count : ℕ) (plain : Script) (script : List ScriptC
           let place : length ledger.answers + (name.place - count) ≡ name.place = omega (arith, past, as_many) in
           ap wide (later name (name.place - count) behind) ∙ whole-later full plain_ledger ledger (name.place - count) name.answer
           ∙ ap (λ (n : ℕ). ScriptName (answer_of n name.answer)) place
+
+  -- names of entries stand for the same numbers
+  pub numbers-known : numbers_in naming plain_ledger ≡ numbers_in name_of ledger
+  numbers-known = numbers-read wide naming plain_ledger ledger tables-read reads-wide
 
   narrow : (x name : named.Name) → IsReadAs all x name → x.place < length plain_ledger.answers → IsReadAs reading x name
   narrow x name is made = sym (whole-made reading plain_ledger ledger x made) ∙ is

@@ -1,12 +1,13 @@
 pub mod Options
 pub mod Lasting
 pub mod ReadyLaws
+pub mod Numbers
 pub mod Parameters
 pub mod Conditions
 pub mod Entries
 pub mod Planning
 pub mod Verdicts
-pub mod Untracked
+pub mod Marks
 pub mod Placements
 pub mod Constants
 pub mod Making

@@ -5,6 +5,7 @@ use Rattle.std.specs.List.{AllZip, list_all, list_any}
 use Rattle.std.proofs.lemmas.Bool.{and_parts, false≢true}
 use Rattle.std.proofs.lemmas.Option.{slice_get_within}
 use Rattle.clif_types.specs.declared.types.«Type».{«Type»}
+use Rattle.clif_instructions.specs.Instruction.{ASignatureRef}
 use Rattle.clif_meaning.specs.Acceptance.{allows, can_assign, can_lead, can_operate, has_argument, has_entry, has_item, is_open, may_give_all, fits_stack_map}
 use Rattle.clif_meaning.specs.Instruction.{Argument, Known, CallResult, CallPayload, Edge, Instruction, operation_entries}
 use Rattle.clif_meaning.specs.Ledger.{Answered, BlockState, Ledger, answer_at, answered_edge, block_state, edge_named, has_block, has_instruction, has_value, is_inserted, is_instruction_answer, is_sealed, leads_to, state_has, type_of, value_answer_type, variable_type, or_invalid}
@@ -193,7 +194,8 @@ module _ (whole reading : Reading) (plain ledger : Ledger) (joined : IsJoined re
       let parts = and_parts (is_some (edge_named plain first)) (list_all (λ name. is_some (edge_named plain name)) names) may in
       (edge_name first default is.0 parts.0, edge_names names entries is.1 parts.1)
   narrowed (MakeExceptionTable number first listed) (MakeExceptionTable signature normal items) is may =
-      let parts = and_parts (is_some (edge_named plain first)) (list_all (has_item plain) listed) may in
+      let named = (and_parts (is_some (edge_named plain first) && list_all (has_item plain) listed) (has_entry plain.tables (ASignatureRef number)) may).0 in
+      let parts = and_parts (is_some (edge_named plain first)) (list_all (has_item plain) listed) named in
       (is.0, edge_name first normal is.1 parts.0, each (IsReadTableItem whole) (IsReadTableItem reading) (has_item plain) item listed items is.2 parts.1)
   narrowed (Annotate inside names) (Annotate within others) is may =
       let parts = and_parts (if inside then is_open plain plain.current else true) (list_all (has_value plain) names) may in

@@ -111,8 +111,8 @@ module _ (side : Ledger) where
 
   deny-exceptions : (signature : ℕ) (normal : Name) (items : List TableItem) → (is_some (edge_named side normal) ≡ false) ⊎ (list_all (has_item side) items ≡ false)
       → allows side (MakeExceptionTable signature normal items) ≡ false
-  deny-exceptions signature normal items (inl edge) = left-denied _ _ edge
-  deny-exceptions signature normal items (inr listed) = right-denied _ _ listed
+  deny-exceptions signature normal items (inl edge) = left-denied _ _ (left-denied _ _ edge)
+  deny-exceptions signature normal items (inr listed) = left-denied _ _ (right-denied _ _ listed)
 
   deny-branch : (branch from to : Name) → IsNowhere side branch → allows side (ChangeJumpDestination branch from to) ≡ false
   deny-branch branch from to gone = left-denied _ _ (left-denied _ _ (left-denied _ _ (left-denied _ _ (no-instruction side branch gone))))

@@ -31,6 +31,7 @@ use Rattle.clif_resolution.specs.Callings.{IsOutsideShape, can_call, is_imported
 use Rattle.clif_replay.specs.Ready.{AnswerIs, IsReady, IsReadyAfter}
 use Rattle.clif_resolution.specs.Answers.{all_values, value_of}
 use Rattle.clif_resolution.specs.Conditions.{is_open}
+use Rattle.clif_resolution.specs.Entries.{Functions, Numbers, Signatures, numbers_at}
 use Rattle.clif_replay.specs.Requests.{Naming, outside_request}
 use Rattle.clif_replay.proofs.Conditions.{all-exist, all-named, open-same, values-same}
 use Rattle.clif_replay.proofs.Lasting.{LeavesTables}
@@ -48,111 +49,111 @@ in-order false false values = refl
 
 -- it is allowed where it may be made
 pub outside-same : {naming : Naming} {declared : SignatureShape} (calls : List AnsweredCall) (b : FunctionBuilder) (answers : List Answer) → IsReady naming declared calls b answers
-    → (called : OutsideCall) → allows (ledger_of calls) (outside_request naming (ledger_of calls) called)
+    → (called : OutsideCall) → allows (ledger_of calls) (outside_request (numbers_at b.func.now answers) naming (ledger_of calls) called)
     ≡ can_call b answers called
 outside-same calls b answers ready (outside.Call function args) =
     let values = values-same calls b answers ready args.items in
     let opens = open-same calls b answers ready in
     let tables = ready.stands.ledger.tables in
-    rw (values, opens, tables) (in-order (has_entry b.func.now.tables (AFunctionRef function)) (is_open b) (all_values b.func.now answers args.items))
+    rw (values, opens, tables) (in-order (has_entry b.func.now.tables (AFunctionRef (numbers_at b.func.now answers Functions function))) (is_open b) (all_values b.func.now answers args.items))
 outside-same calls b answers ready (outside.CallIndirect signature callee args) =
     let values = values-same calls b answers ready (callee ∷ args.items) in
     let opens = open-same calls b answers ready in
     let tables = ready.stands.ledger.tables in
-    rw (values, opens, tables) (in-order (has_entry b.func.now.tables (ASignatureRef signature)) (is_open b) (all_values b.func.now answers (callee ∷ args.items)))
+    rw (values, opens, tables) (in-order (has_entry b.func.now.tables (ASignatureRef (numbers_at b.func.now answers Signatures signature))) (is_open b) (all_values b.func.now answers (callee ∷ args.items)))
 
 -- it asks for its shape
 pub outside-asked : RequestsAskForTheirShapes → {naming : Naming} {declared : SignatureShape} (calls : List AnsweredCall) (b : FunctionBuilder) (answers : List Answer) → IsReady naming declared calls b answers
-    → (called : OutsideCall) (values : List ℕ) → map (value_of b.func.now answers) (operands_of called) ≡ map Some values
-    → AsksForShape calls b.func.now (outside_request naming (ledger_of calls) called) (outside_shape called values) Invalid
-outside-asked shapes {naming} calls b answers ready (outside.Call function args) values found =
-    (shapes calls b.func.now b.ctx.now b.position ready.stands.ledger).call_function function (map naming args.items) values
+    → (numbers : Numbers) (called : OutsideCall) (values : List ℕ) → map (value_of b.func.now answers) (operands_of called) ≡ map Some values
+    → AsksForShape calls b.func.now (outside_request numbers naming (ledger_of calls) called) (outside_shape numbers called values) Invalid
+outside-asked shapes {naming} calls b answers ready numbers (outside.Call function args) values found =
+    (shapes calls b.func.now b.ctx.now b.position ready.stands.ledger).call_function (numbers Functions function) (map naming args.items) values
     (all-named calls b answers ready args.items values found)
-outside-asked shapes {naming} calls b answers ready (outside.CallIndirect signature callee args) [] found = let no_way : ⊥ = cc in absurd no_way
-outside-asked shapes {naming} calls b answers ready (outside.CallIndirect signature callee args) (address ∷ values) found =
+outside-asked shapes {naming} calls b answers ready numbers (outside.CallIndirect signature callee args) [] found = let no_way : ⊥ = cc in absurd no_way
+outside-asked shapes {naming} calls b answers ready numbers (outside.CallIndirect signature callee args) (address ∷ values) found =
     let here : value_of b.func.now answers callee ≡ Some address = cc in
     let rest : map (value_of b.func.now answers) args.items ≡ map Some values = cc in
-    (shapes calls b.func.now b.ctx.now b.position ready.stands.ledger).call_indirect signature (naming callee) address (map naming args.items) values
+    (shapes calls b.func.now b.ctx.now b.position ready.stands.ledger).call_indirect (numbers Signatures signature) (naming callee) address (map naming args.items) values
     (value-found calls b answers ready callee address here) (all-named calls b answers ready args.items values rest)
 
 -- its shape has these values alone, goes nowhere, and names what it calls
-pub outside-operands : (called : OutsideCall) (values : List ℕ) → operands (outside_shape called values) ≡ values
-outside-operands (outside.Call function args) values = refl
-outside-operands (outside.CallIndirect signature callee args) values = refl
+pub outside-operands : (numbers : Numbers) (called : OutsideCall) (values : List ℕ) → operands (outside_shape numbers called values) ≡ values
+outside-operands numbers (outside.Call function args) values = refl
+outside-operands numbers (outside.CallIndirect signature callee args) values = refl
 
-pub outside-contexts : (f : Body) (called : OutsideCall) (values : List ℕ) → All (ValueExists f) (contexts (outside_shape called values))
-outside-contexts f (outside.Call function args) values k d inside = absurd (omega (arith, inside))
-outside-contexts f (outside.CallIndirect signature callee args) values k d inside = absurd (omega (arith, inside))
+pub outside-contexts : (f : Body) (numbers : Numbers) (called : OutsideCall) (values : List ℕ) → All (ValueExists f) (contexts (outside_shape numbers called values))
+outside-contexts f numbers (outside.Call function args) values k d inside = absurd (omega (arith, inside))
+outside-contexts f numbers (outside.CallIndirect signature callee args) values k d inside = absurd (omega (arith, inside))
 
-pub outside-edges : (b : FunctionBuilder) (called : OutsideCall) (values : List ℕ) → All (CanLead b) (destinations (outside_shape called values))
-outside-edges b (outside.Call function args) values k d inside = absurd (omega (arith, inside))
-outside-edges b (outside.CallIndirect signature callee args) values k d inside = absurd (omega (arith, inside))
+pub outside-edges : (b : FunctionBuilder) (numbers : Numbers) (called : OutsideCall) (values : List ℕ) → All (CanLead b) (destinations (outside_shape numbers called values))
+outside-edges b numbers (outside.Call function args) values k d inside = absurd (omega (arith, inside))
+outside-edges b numbers (outside.CallIndirect signature callee args) values k d inside = absurd (omega (arith, inside))
 
-pub outside-entries : (called : OutsideCall) (values : List ℕ) → entries_of (outside_shape called values) ≡ entries_of (outside_shape called [])
-outside-entries (outside.Call function args) values = refl
-outside-entries (outside.CallIndirect signature callee args) values = refl
+pub outside-entries : (numbers : Numbers) (called : OutsideCall) (values : List ℕ) → entries_of (outside_shape numbers called values) ≡ entries_of (outside_shape numbers called [])
+outside-entries numbers (outside.Call function args) values = refl
+outside-entries numbers (outside.CallIndirect signature callee args) values = refl
 
 -- as many results as what it calls gives
-pub outside-count : (tables : TableLists) (called : OutsideCall) (values : List ℕ) → count_of_results tables (outside_shape called values) ≡ length (returns_in tables called)
-outside-count tables (outside.Call function args) values = omega arith
-outside-count tables (outside.CallIndirect signature callee args) values = omega arith
+pub outside-count : (tables : TableLists) (numbers : Numbers) (called : OutsideCall) (values : List ℕ) → count_of_results tables (outside_shape numbers called values) ≡ length (returns_in numbers tables called)
+outside-count tables numbers (outside.Call function args) values = omega arith
+outside-count tables numbers (outside.CallIndirect signature callee args) values = omega arith
 
 -- MAKING ----------------------------------------------------------------------------------------------------------------
 
 -- a test of the entries that its shape names is one of whether it was imported
 pub imported-tested : (f : Body) (answers : List Answer) (called : OutsideCall) (shape : InstructionData) (test : Bool) → IsOutsideShape f answers called shape
-    → IsTrue test ↔ All (EntryExists f.tables) (entries_of shape) → is_imported f called ≡ test
+    → IsTrue test ↔ All (EntryExists f.tables) (entries_of shape) → is_imported f answers called ≡ test
 imported-tested f answers called shape test found tells =
-    ap (list_all (has_entry f.tables)) (sym (outside-entries called found.0) ∙ ap entries_of (sym found.2)) ∙ entries-tested f.tables (entries_of shape) test tells
+    ap (list_all (has_entry f.tables)) (sym (outside-entries (numbers_at f answers) called found.0) ∙ ap entries_of (sym found.2)) ∙ entries-tested f.tables (entries_of shape) test tells
 
 -- one that may be made stands in an open block, and what it calls was imported
 pub outside-open : (b : FunctionBuilder) (answers : List Answer) (called : OutsideCall) → can_call b answers called ≡ true → is_open b ≡ true
-outside-open b answers called may = (and_parts (is_open b) _ (and_parts _ (is_imported b.func.now called) may).0).0
+outside-open b answers called may = (and_parts (is_open b) _ (and_parts _ (is_imported b.func.now answers called) may).0).0
 
 pub outside-imported : (b : FunctionBuilder) (answers : List Answer) (called : OutsideCall) (shape : InstructionData) → can_call b answers called ≡ true
     → IsOutsideShape b.func.now answers called shape → All (EntryExists b.func.now.tables) (entries_of shape)
 outside-imported b answers called shape may found =
-    subst (All (EntryExists b.func.now.tables)) (sym (ap entries_of found.2 ∙ outside-entries called found.0))
-    (all-entries-exist b.func.now.tables (entries_of (outside_shape called [])) (and_parts _ (is_imported b.func.now called) may).1)
+    subst (All (EntryExists b.func.now.tables)) (sym (ap entries_of found.2 ∙ outside-entries (numbers_at b.func.now answers) called found.0))
+    (all-entries-exist b.func.now.tables (entries_of (outside_shape (numbers_at b.func.now answers) called [])) (and_parts _ (is_imported b.func.now answers called) may).1)
 
 -- what its shape names exists
 pub outside-exist : {naming : Naming} {declared : SignatureShape} (calls : List AnsweredCall) (b : FunctionBuilder) (answers : List Answer) → IsReady naming declared calls b answers
     → (called : OutsideCall) (shape : InstructionData) → IsOutsideShape b.func.now answers called shape
     → (k : ℕ) → k < length (operands shape) → slice_index (operands shape) k < length b.func.now.values
 outside-exist calls b answers ready called shape found =
-    subst (λ (xs : List ℕ). (k : ℕ) → k < length xs → slice_index xs k < length b.func.now.values) (sym (ap operands found.2 ∙ outside-operands called found.0))
+    subst (λ (xs : List ℕ). (k : ℕ) → k < length xs → slice_index xs k < length b.func.now.values) (sym (ap operands found.2 ∙ outside-operands (numbers_at b.func.now answers) called found.0))
     (all-exist calls b answers ready (operands_of called) found.0 found.1)
 
 -- where there is no room for its results a table is full
 pub outside-full : (f : Body) (answers : List Answer) (called : OutsideCall) (shape : InstructionData) → IsOutsideShape f answers called shape
-    → HasNoRoom f (count_of_results f.tables shape) → HasNoRoom f (length (returns_in f.tables called))
+    → HasNoRoom f (count_of_results f.tables shape) → HasNoRoom f (length (returns_in (numbers_at f answers) f.tables called))
 outside-full f answers called shape found none =
-    subst (HasNoRoom f) (ap (count_of_results f.tables) found.2 ∙ outside-count f.tables called found.0) none
+    subst (HasNoRoom f) (ap (count_of_results f.tables) found.2 ∙ outside-count f.tables (numbers_at f answers) called found.0) none
 
-leaves-tables : (naming : Naming) (ledger : Ledger) (called : OutsideCall) → LeavesTables (outside_request naming ledger called)
-leaves-tables naming ledger (outside.Call function args) = tt
-leaves-tables naming ledger (outside.CallIndirect signature callee args) = tt
+leaves-tables : (numbers : Numbers) (naming : Naming) (ledger : Ledger) (called : OutsideCall) → LeavesTables (outside_request numbers naming ledger called)
+leaves-tables numbers naming ledger (outside.Call function args) = tt
+leaves-tables numbers naming ledger (outside.CallIndirect signature callee args) = tt
 
-is-answered : (naming : Naming) (ledger : Ledger) (called : OutsideCall) (inst : ℕ) (results : List ℕ) → AnswerIs (answer.Inst inst) (answers_to ledger (outside_request naming ledger called)) (inst ∷ results)
-is-answered naming ledger (outside.Call function args) inst results = (_, _, refl, refl)
-is-answered naming ledger (outside.CallIndirect signature callee args) inst results = (_, _, refl, refl)
+is-answered : (numbers : Numbers) (naming : Naming) (ledger : Ledger) (called : OutsideCall) (inst : ℕ) (results : List ℕ) → AnswerIs (answer.Inst inst) (answers_to ledger (outside_request numbers naming ledger called)) (inst ∷ results)
+is-answered numbers naming ledger (outside.Call function args) inst results = (_, _, refl, refl)
+is-answered numbers naming ledger (outside.CallIndirect signature callee args) inst results = (_, _, refl, refl)
 
 -- it was made
 pub outside-ready : RequestsAskForTheirShapes → {naming : Naming} {declared : SignatureShape} (calls : List AnsweredCall) (old new : FunctionBuilder) (answers : List Answer) (called : OutsideCall)
     (shape : InstructionData) (inst : ℕ) → IsReady naming declared calls old answers → IsOutsideShape old.func.now answers called shape → Builds old new shape Invalid (Ok inst)
-    → IsReadyAfter naming declared calls (outside_request naming (ledger_of calls) called) new answers (answer.Inst inst)
+    → IsReadyAfter naming declared calls (outside_request (numbers_at old.func.now answers) naming (ledger_of calls) called) new answers (answer.Inst inst)
 outside-ready shapes {naming} {declared} calls old new answers called shape inst ready found done = (
   numbers_of new inst,
-  ready-more calls call old new answers (answer.Inst inst) ready (leaves-tables naming (ledger_of calls) called) (done.grows.6, done.grows.8) stands
-      (is-answered naming (ledger_of calls) called inst (inst_at new.func.now inst).results),
+  ready-more calls call old new answers (answer.Inst inst) ready (leaves-tables (numbers_at old.func.now answers) naming (ledger_of calls) called) (done.grows.6, done.grows.8) stands
+      (is-answered (numbers_at old.func.now answers) naming (ledger_of calls) called inst (inst_at new.func.now inst).results),
 )
   where
     call : AnsweredCall
-    call = record { request = outside_request naming (ledger_of calls) called; numbers = numbers_of new inst }
+    call = record { request = outside_request (numbers_at old.func.now answers) naming (ledger_of calls) called; numbers = numbers_of new inst }
 
     stands : StandsFor declared (calls ++ call ∷ []) new
     stands =
-        let asked = outside-asked shapes calls old answers ready called found.0 found.1 in
+        let asked = outside-asked shapes calls old answers ready (numbers_at old.func.now answers) called found.0 found.1 in
         let has = subst (λ (s : InstructionData). HasShape calls old.func.now asked.1 s Invalid) (sym found.2) asked.3 in
         subst (λ (r : Request). StandsFor declared (calls ++ record { request = r; numbers = numbers_of new inst } ∷ []) new) (sym asked.2)
         (done.stands declared calls asked.0 asked.1 ready.stands has)

@@ -37,6 +37,7 @@ use Rattle.clif_meaning.specs.View.{operation_of}
 use Rattle.clif_ssa.specs.Limits.{IsFull}
 use Rattle.clif_builder.specs.Built.{HasFullTable}
 use Rattle.clif_meaning.proofs.OperationTypes.{operation_typed}
+use Rattle.clif_resolution.specs.Entries.{Numbers, numbers_at}
 use Rattle.clif_replay.specs.Limits.{PlanMeetsFullTable}
 use Rattle.clif_resolution.specs.Plans.{AreFound, IsPlanned, can_make, has_entries, has_names, type_in, controlling_in, first_type, operation_in}
 use Rattle.clif_resolution.specs.Answers.{all_values, value_of}
@@ -88,21 +89,21 @@ controlling-same first second same (plan.Brif condition block_then block_else) =
 controlling-same first second same _ = refl
 
 -- what a plan names is no constant
-entries-kept : (tables : TableLists) (p : Plan)
-    → list_all (has_entry (tables_of_calls tables)) (operation_entries (operation_in p)) ≡ list_all (has_entry tables) (operation_entries (operation_in p))
-entries-kept tables (plan.Jump destination) = refl
-entries-kept tables _ = refl
+entries-kept : (tables : TableLists) (numbers : Numbers) (p : Plan)
+    → list_all (has_entry (tables_of_calls tables)) (operation_entries (operation_in numbers p)) ≡ list_all (has_entry tables) (operation_entries (operation_in numbers p))
+entries-kept tables numbers (plan.Jump destination) = refl
+entries-kept tables numbers _ = refl
 
 -- an instruction is allowed where it may be made
 pub plan-same : {naming : Naming} {declared : SignatureShape} (calls : List AnsweredCall) (b : FunctionBuilder) (answers : List Answer) → IsReady naming declared calls b answers
-    → (p : Plan) → allows (ledger_of calls) (request_in naming (ledger_of calls) p) ≡ can_make b answers p
+    → (p : Plan) → allows (ledger_of calls) (request_in (numbers_at b.func.now answers) naming (ledger_of calls) p) ≡ can_make b answers p
 plan-same {naming} calls b answers ready p =
     let values = values-same calls b answers ready (operands_in p) in
     let edges = edges-same calls b answers ready (edges_in p) in
     let opens = open-same calls b answers ready in
     let typed = controlling-same (λ name. or_invalid (type_of (ledger_of calls) (naming name))) (λ name. type_in b.func.now (value_of b.func.now answers name)) (type-same calls b answers ready) p in
     let tables = ready.stands.ledger.tables in
-    let named = entries-kept b.func.now.tables p in
+    let named = entries-kept b.func.now.tables (numbers_at b.func.now answers) p in
     rw (values, edges, opens, typed, tables, named) (by (is_open b) (all_values b.func.now answers (operands_in p)) (list_all (may_lead b answers) (edges_in p)) _ _)
   where
     by : (first second third fourth last : Bool) → ((((first && second) && third) && fourth) && last) ≡ (((first && (second && third)) && fourth) && last)
@@ -111,7 +112,7 @@ plan-same {naming} calls b answers ready p =
 
 -- one that may be made stands in an open block
 pub opens-planned : (b : FunctionBuilder) (answers : List Answer) (p : Plan) → can_make b answers p ≡ true → is_open b ≡ true
-opens-planned b answers p may = (and_parts (is_open b) (has_names b answers p) (and_parts (is_open b && has_names b answers p) _ (and_parts _ (has_entries b.func.now p) may).0).0).0
+opens-planned b answers p may = (and_parts (is_open b) (has_names b answers p) (and_parts (is_open b && has_names b answers p) _ (and_parts _ (has_entries b.func.now answers p) may).0).0).0
 
 -- THE SHAPE -----------------------------------------------------------------------------------------------------------
 
@@ -140,60 +141,60 @@ pub destinations-lead : {naming : Naming} {declared : SignatureShape} (calls : L
     → (p : Plan) (s : InstructionData) (ty : «Type») → IsPlanned b answers p s ty → All (CanLead b) (destinations s)
 destinations-lead calls b answers ready p s ty planned = edges-lead calls b answers ready (edges_in p) (destinations s) planned.edges
 
-planned-no-call : (tables : TableLists) (p : Plan) (s : InstructionData) → operation_in p ≡ operation_of tables s → is_call s ≡ false
-planned-no-call tables p (shape.Call function args) same = absurd (never-calls p (ap call_shape same))
-planned-no-call tables p (shape.CallIndirect sig args) same = absurd (never-calls p (ap call_shape same))
-planned-no-call tables p (shape.TryCall function args table) same = absurd (never-calls p (ap call_shape same))
-planned-no-call tables p (shape.TryCallIndirect args table) same = absurd (never-calls p (ap call_shape same))
-planned-no-call tables p _ same = refl
+planned-no-call : (tables : TableLists) (numbers : Numbers) (p : Plan) (s : InstructionData) → operation_in numbers p ≡ operation_of tables s → is_call s ≡ false
+planned-no-call tables numbers p (shape.Call function args) same = absurd (never-calls numbers p (ap call_shape same))
+planned-no-call tables numbers p (shape.CallIndirect sig args) same = absurd (never-calls numbers p (ap call_shape same))
+planned-no-call tables numbers p (shape.TryCall function args table) same = absurd (never-calls numbers p (ap call_shape same))
+planned-no-call tables numbers p (shape.TryCallIndirect args table) same = absurd (never-calls numbers p (ap call_shape same))
+planned-no-call tables numbers p _ same = refl
 
 -- the instruction that a plan asks for
 pub instruction-named : {naming : Naming} {declared : SignatureShape} (calls : List AnsweredCall) (b : FunctionBuilder) (answers : List Answer) → IsReady naming declared calls b answers
     → (p : Plan) (s : InstructionData) (ty : «Type») → IsPlanned b answers p s ty
-    → HasShape calls b.func.now (record { operation = operation_in p; controlling = controlling_in (λ name. or_invalid (type_of (ledger_of calls) (naming name))) p; operands = map naming (operands_in p); contexts = []; edges = map (edge_of naming) (edges_in p) }) s ty
+    → HasShape calls b.func.now (record { operation = operation_in (numbers_at b.func.now answers) p; controlling = controlling_in (λ name. or_invalid (type_of (ledger_of calls) (naming name))) p; operands = map naming (operands_in p); contexts = []; edges = map (edge_of naming) (edges_in p) }) s ty
 instruction-named {naming} calls b answers ready p s ty planned = record {
   operation = planned.operation;
   controlling = controlling-same (λ name. or_invalid (type_of (ledger_of calls) (naming name))) (λ name. type_in b.func.now (value_of b.func.now answers name)) (type-same calls b answers ready) p
       ∙ planned.controlling;
   typed = planned.typed;
   operands_named = all-named calls b answers ready (operands_in p) (operands s) planned.operands;
-  contexts_numbered = ap (map Some) (sym (no_contexts s (planned-no-call b.func.now.tables p s planned.operation)));
+  contexts_numbered = ap (map Some) (sym (no_contexts s (planned-no-call b.func.now.tables (numbers_at b.func.now answers) p s planned.operation)));
   edges = edges-named calls b answers ready (edges_in p) (destinations s) planned.edges;
 }
 
 pub contexts-exist : (b : FunctionBuilder) (answers : List Answer) (p : Plan) (s : InstructionData) (ty : «Type») → IsPlanned b answers p s ty
     → All (ValueExists b.func.now) (contexts s)
 contexts-exist b answers p s ty planned =
-    subst (All (ValueExists b.func.now)) (sym (no_contexts s (planned-no-call b.func.now.tables p s planned.operation))) (λ k d inside. absurd (omega (arith, inside)))
+    subst (All (ValueExists b.func.now)) (sym (no_contexts s (planned-no-call b.func.now.tables (numbers_at b.func.now answers) p s planned.operation))) (λ k d inside. absurd (omega (arith, inside)))
 
 pub entries-exist : (b : FunctionBuilder) (answers : List Answer) (p : Plan) (s : InstructionData) (ty : «Type») → IsPlanned b answers p s ty → can_make b answers p ≡ true
     → All (EntryExists b.func.now.tables) (entries_of s)
 entries-exist b answers p s ty planned may =
     all-entries-exist b.func.now.tables (entries_of s)
-    (ap (list_all (has_entry b.func.now.tables)) (sym (entries-alike b.func.now.tables p s planned.operation)) ∙ (and_parts _ (has_entries b.func.now p) may).1)
+    (ap (list_all (has_entry b.func.now.tables)) (sym (entries-alike b.func.now.tables (numbers_at b.func.now answers) p s planned.operation)) ∙ (and_parts _ (has_entries b.func.now answers p) may).1)
 
 -- FORMATS -------------------------------------------------------------------------------------------------------------
 
 -- FULL TABLES ---------------------------------------------------------------------------------------------------------
 
 -- how many results an instruction of a plan has
-abbrev pub plan_count : Plan → ℕ
-plan_count p = length (operation_typing (operation_in p)).results
+abbrev pub plan_count : Numbers → Plan → ℕ
+plan_count numbers p = length (operation_typing (operation_in numbers p)).results
 
 -- where there is no room for it, a table is full; or one result too many is wanted
-plan-met : (f : Body) (p : Plan) → HasNoRoom f (plan_count p) → (plan_count p ≤ 1 → IsFull f) → PlanMeetsFullTable p f
-plan-met f (plan.Split arg) none few = none
-plan-met f (plan.UnaryIeee F16const bits) none few = few (omega arith)
-plan-met f (plan.UnaryIeee F32const bits) none few = few (omega arith)
-plan-met f (plan.UnaryIeee F64const bits) none few = few (omega arith)
-plan-met f (plan.StackLoad stack.StackAddr ty slot offset) none few = few (omega arith)
-plan-met f (plan.StackLoad stack.StackLoad ty slot offset) none few = few (omega arith)
-plan-met f _ none few = few (omega arith)
+plan-met : (f : Body) (numbers : Numbers) (p : Plan) → HasNoRoom f (plan_count numbers p) → (plan_count numbers p ≤ 1 → IsFull f) → PlanMeetsFullTable p f
+plan-met f numbers (plan.Split arg) none few = none
+plan-met f numbers (plan.UnaryIeee F16const bits) none few = few (omega arith)
+plan-met f numbers (plan.UnaryIeee F32const bits) none few = few (omega arith)
+plan-met f numbers (plan.UnaryIeee F64const bits) none few = few (omega arith)
+plan-met f numbers (plan.StackLoad stack.StackAddr ty slot offset) none few = few (omega arith)
+plan-met f numbers (plan.StackLoad stack.StackLoad ty slot offset) none few = few (omega arith)
+plan-met f numbers _ none few = few (omega arith)
 
 pub planned-full : (b : FunctionBuilder) (answers : List Answer) (p : Plan) (s : InstructionData) (ty : «Type») → IsPlanned b answers p s ty
     → HasNoRoom b.func.now (count_of_results b.func.now.tables s) → (count_of_results b.func.now.tables s ≤ 1 → HasFullTable b) → PlanMeetsFullTable p b.func.now
 planned-full b answers p s ty planned none few =
-    let same : plan_count p ≡ count_of_results b.func.now.tables s =
+    let same : plan_count (numbers_at b.func.now answers) p ≡ count_of_results b.func.now.tables s =
     ap (λ (o : Operation). length (operation_typing o).results) planned.operation ∙ ap (λ (row : Row). length row.results) (operation_typed b.func.now.tables s)
-    ∙ sym (plain_count b.func.now.tables s (planned-no-call b.func.now.tables p s planned.operation)) in
-    plan-met b.func.now p (subst (HasNoRoom b.func.now) (sym same) none) (λ small. full-either b.func.now (few (subst (λ (n : ℕ). n ≤ 1) same small)))
+    ∙ sym (plain_count b.func.now.tables s (planned-no-call b.func.now.tables (numbers_at b.func.now answers) p s planned.operation)) in
+    plan-met b.func.now (numbers_at b.func.now answers) p (subst (HasNoRoom b.func.now) (sym same) none) (λ small. full-either b.func.now (few (subst (λ (n : ℕ). n ≤ 1) same small)))

@@ -1,5 +1,5 @@
 -- Each call of a list asks the builder for what the list's own request asks, with its names read, where each name is read as its own.
-use Rattle.std.proofs.Common.{◌≡◌, ℕ, zero, suc, ◌-◌, List, [], ◌∷◌, ◌++◌, length, refl, ap, ◌∙◌}
+use Rattle.std.proofs.Common.{◌≡◌, ℕ, zero, suc, ◌-◌, List, [], ◌∷◌, ◌++◌, length, refl, ap, ap₂, subst, sym, ◌∙◌}
 use Rattle.std.specs.Prelude.{map, slice_get, option_and_then, unwrap_or, Option, Some, None}
 use Rattle.std.specs.List.{AllZip}
 use Rattle.clif_types.specs.declared.types.«Type».{«Type»}
@@ -36,7 +36,10 @@ use Rattle.clif_expansion.specs.Joining.{IsReadAnswer, IsReadException, IsReadEx
 use Rattle.clif_expansion.specs.Reading.{IsReadArgument, IsReadAs, IsReadEdge, IsReadInstruction, Reading}
 use Rattle.clif_switch_calls.specs.SwitchCalls.{bare_edge}
 use Rattle.clif_replay.specs.Cases.{cases_of, switch_under}
-use Rattle.clif_replay.specs.Requests.{Naming, edge_of, emission_under, item_of, operand_in, name_of, passed_of, request_in, request_of, request_under}
+use Rattle.clif_tables.specs.Entries.{TableEntry}
+use Rattle.clif_resolution.specs.Entries.{ExceptionTables, Functions, JumpTables, NamedTable, Numbers, Signatures, StackSlots, number_in}
+use Rattle.clif_replay.specs.Entries.{count_of, entry_as, entry_named, numbers_in}
+use Rattle.clif_replay.specs.Requests.{Naming, edge_of, emission_under, item_of, operand_in, name_of, passed_of, request_in, request_of, request_under, request_with}
 use Rattle.clif_replay.proofs.Planning.{controlling-same}
 
 -- what is read as an answer has its type
@@ -51,6 +54,20 @@ type-read reading (Some (AnEdge e)) (Some (AnEdge d)) is = refl
 type-read reading (Some (AJumpTable m)) (Some (AJumpTable n)) is = refl
 type-read reading (Some (AnExceptionTable m)) (Some (AnExceptionTable n)) is = refl
 type-read reading _ _ is = absurd is
+
+-- and is the same entry
+pub entry-read : (table : NamedTable) (reading : Reading) (a b : Option Answered) → IsReadAnswer reading a b
+    → option_and_then (λ (answered : Answered). number_in table (entry_as answered)) a ≡ option_and_then (λ (answered : Answered). number_in table (entry_as answered)) b
+entry-read table reading None None is = refl
+entry-read table reading (Some ABlock) (Some ABlock) is = refl
+entry-read table reading (Some (AVariable v)) (Some (AVariable w)) is = refl
+entry-read table reading (Some (AValue t)) (Some (AValue u)) is = refl
+entry-read table reading (Some AnInstruction) (Some AnInstruction) is = refl
+entry-read table reading (Some (AnEntry e m)) (Some (AnEntry d n)) is = ap₂ (λ (made : TableEntry) (number : ℕ). number_in table (entry_as (AnEntry made number))) is.0 is.1
+entry-read table reading (Some (AnEdge e)) (Some (AnEdge d)) is = refl
+entry-read table reading (Some (AJumpTable m)) (Some (AJumpTable n)) is = ap (λ (number : ℕ). number_in table (entry_as (AJumpTable number))) is
+entry-read table reading (Some (AnExceptionTable m)) (Some (AnExceptionTable n)) is = ap (λ (number : ℕ). number_in table (entry_as (AnExceptionTable number))) is
+entry-read table reading _ _ is = absurd is
 
 -- the edges of a table are read
 table-read : (reading : Reading) (tables' tables : List (Option (List (Edge named.Name named.Name)))) (k : ℕ) → AllZip (IsReadTable reading) tables' tables
@@ -82,8 +99,9 @@ as-long R [] (y ∷ ys) are = absurd are
 as-long R (x ∷ xs) [] are = absurd are
 as-long R (x ∷ xs) (y ∷ ys) are = ap suc (as-long R xs ys are.1)
 
--- Names that are read as others have their types, and tables are read.
+-- Names that are read as others have their types and lead to the same entries, and tables are read.
 pub record AreReadTables (reading : Reading) (plain ledger : Ledger) : Type 0 where
+  pub entries : (table : NamedTable) (x name : named.Name) → IsReadAs reading x name → entry_named table plain x ≡ entry_named table ledger name
   pub types : (x name : named.Name) → IsReadAs reading x name → value_answer_type (answer_at plain x) ≡ value_answer_type (answer_at ledger name)
   pub jump_tables : AllZip (IsReadTable reading) plain.jump_tables ledger.jump_tables
   pub exception_tables : AllZip (IsReadException reading) plain.exception_tables ledger.exception_tables
@@ -91,6 +109,17 @@ pub record AreReadTables (reading : Reading) (plain ledger : Ledger) : Type 0 wh
 
 module _ (reading : Reading) (naming : Naming) (plain ledger : Ledger) (joined : AreReadTables reading plain ledger)
     (reads : (name : Name) → IsReadAs reading (naming name) (name_of name)) where
+  -- tables are as long, and names of entries stand for the same numbers
+  counts-read : (table : NamedTable) → count_of table plain ≡ count_of table ledger
+  counts-read StackSlots = ap (λ (tables : TableLists). length tables.stack_slots) joined.tables
+  counts-read Signatures = ap (λ (tables : TableLists). length tables.signatures) joined.tables
+  counts-read Functions = ap (λ (tables : TableLists). length tables.functions) joined.tables
+  counts-read JumpTables = as-long (IsReadTable reading) plain.jump_tables ledger.jump_tables joined.jump_tables
+  counts-read ExceptionTables = as-long (IsReadException reading) plain.exception_tables ledger.exception_tables joined.exception_tables
+
+  pub numbers-read : numbers_in naming plain ≡ numbers_in name_of ledger
+  numbers-read i table name = unwrap_or (joined.entries table (naming name) (name_of name) (reads name) i) (counts-read table i)
+
   -- a name has the same type
   pub type-same : (name : Name) → or_invalid (type_of plain (naming name)) ≡ or_invalid (type_of ledger (name_of name))
   type-same name = ap or_invalid (joined.types (naming name) (name_of name) (reads name))
@@ -123,8 +152,8 @@ module _ (reading : Reading) (naming : Naming) (plain ledger : Ledger) (joined :
   items-read (item.Default name ∷ items) = (reads name, items-read items)
   items-read (item.Context name ∷ items) = (reads name, items-read items)
 
-  plan-read : (p : Plan) → IsReadRequest reading (request_in naming plain p) (request_in name_of ledger p)
-  plan-read p = (
+  plan-read : (numbers : Numbers) (p : Plan) → IsReadRequest reading (request_in numbers naming plain p) (request_in numbers name_of ledger p)
+  plan-read numbers p = (
     refl,
     record {
       operation = refl;
@@ -180,40 +209,43 @@ module _ (reading : Reading) (naming : Naming) (plain ledger : Ledger) (joined :
     edges = tt;
   }
 
-  pub request-read : (declared : SignatureShape) (c : Call) → IsReadRequest reading (request_under naming declared plain c) (request_of declared ledger c)
-  request-read declared call.CreateBlock = tt
-  request-read declared (call.SwitchToBlock block) = reads block
-  request-read declared (call.SealBlock block) = reads block
-  request-read declared call.SealAllBlocks = tt
-  request-read declared (call.InsertBlockAfter block after) = (reads block, reads after)
-  request-read declared (call.SetColdBlock block) = reads block
-  request-read declared call.EnsureInsertedBlock = tt
-  request-read declared (call.AppendBlockParam block ty) = (reads block, refl)
-  request-read declared (call.AppendBlockParamsForFunctionParams block) = (reads block, refl)
-  request-read declared (call.AppendBlockParamsForFunctionReturns block) = (reads block, refl)
-  request-read declared (call.Entry entry) = refl
-  request-read declared (call.BlockCall edge) = record { target = reads edge.block; arguments = passed-read edge.args.items }
-  request-read declared (call.CreateJumpTable default entries) = (reads default, names-read entries.items)
-  request-read declared (call.CreateExceptionTable callee normal items) = (refl, reads normal, items-read items.items)
-  request-read declared (call.DeclareVar ty) = refl
-  request-read declared (call.DefVar variable value) = (refl, reads value)
-  request-read declared (call.UseVar variable) = refl
-  request-read declared (call.TryDefVar variable value) = (refl, reads value)
-  request-read declared (call.TryUseVar variable) = refl
-  request-read declared (call.Plain instruction) = plan-read (plan_of instruction)
-  request-read declared (call.Cursor instruction) = plan-read (plan_of instruction)
-  request-read declared (call.Immediate immediate) = (refl, tt)
-  request-read declared (call.Switch entries value otherwise) = (refl, tt)
-  request-read declared (call.Memory called) = (refl, names-read (helper.operands_in called))
-  request-read declared (call.SetSrcloc srcloc) = (refl, tt)
-  request-read declared call.CollectDebugInfo = (refl, tt)
-  request-read declared (call.SetValLabel value label) = (refl, (reads value, tt))
-  request-read declared (call.ChangeJumpDestination branch from to) = (reads branch, reads from, reads to)
-  request-read declared (call.F128const bytes) = (refl, record { operation = refl; controlling = refl; operands = tt; contexts = tt; edges = tt })
-  request-read declared (call.Vconst ty bytes) = (refl, record { operation = refl; controlling = refl; operands = tt; contexts = tt; edges = tt })
-  request-read declared (call.Jump destination) =
+  asked-read : (numbers : Numbers) (declared : SignatureShape) (c : Call)
+      → IsReadRequest reading (request_with numbers naming declared plain c) (request_with numbers name_of declared ledger c)
+  asked-read numbers declared call.CreateBlock = tt
+  asked-read numbers declared (call.SwitchToBlock block) = reads block
+  asked-read numbers declared (call.SealBlock block) = reads block
+  asked-read numbers declared call.SealAllBlocks = tt
+  asked-read numbers declared (call.InsertBlockAfter block after) = (reads block, reads after)
+  asked-read numbers declared (call.SetColdBlock block) = reads block
+  asked-read numbers declared call.EnsureInsertedBlock = tt
+  asked-read numbers declared (call.AppendBlockParam block ty) = (reads block, refl)
+  asked-read numbers declared (call.AppendBlockParamsForFunctionParams block) = (reads block, refl)
+  asked-read numbers declared (call.AppendBlockParamsForFunctionReturns block) = (reads block, refl)
+  asked-read numbers declared (call.Entry entry) = refl
+  asked-read numbers declared (call.BlockCall edge) = record { target = reads edge.block; arguments = passed-read edge.args.items }
+  asked-read numbers declared (call.CreateJumpTable default entries) = (reads default, names-read entries.items)
+  asked-read numbers declared (call.CreateExceptionTable callee normal items) = (refl, reads normal, items-read items.items)
+  asked-read numbers declared (call.DeclareVar ty) = refl
+  asked-read numbers declared (call.DeclareVarNeedsStackMap variable) = refl
+  asked-read numbers declared (call.DeclareValueNeedsStackMap value) = reads value
+  asked-read numbers declared (call.DefVar variable value) = (refl, reads value)
+  asked-read numbers declared (call.UseVar variable) = refl
+  asked-read numbers declared (call.TryDefVar variable value) = (refl, reads value)
+  asked-read numbers declared (call.TryUseVar variable) = refl
+  asked-read numbers declared (call.Plain instruction) = plan-read numbers (plan_of instruction)
+  asked-read numbers declared (call.Cursor instruction) = plan-read numbers (plan_of instruction)
+  asked-read numbers declared (call.Immediate immediate) = (refl, tt)
+  asked-read numbers declared (call.Switch entries value otherwise) = (refl, tt)
+  asked-read numbers declared (call.Memory called) = (refl, names-read (helper.operands_in called))
+  asked-read numbers declared (call.SetSrcloc srcloc) = (refl, tt)
+  asked-read numbers declared call.CollectDebugInfo = (refl, tt)
+  asked-read numbers declared (call.SetValLabel value label) = (refl, (reads value, tt))
+  asked-read numbers declared (call.ChangeJumpDestination branch from to) = (reads branch, reads from, reads to)
+  asked-read numbers declared (call.F128const bytes) = (refl, record { operation = refl; controlling = refl; operands = tt; contexts = tt; edges = tt })
+  asked-read numbers declared (call.Vconst ty bytes) = (refl, record { operation = refl; controlling = refl; operands = tt; contexts = tt; edges = tt })
+  asked-read numbers declared (call.Jump destination) =
       (refl, record { operation = refl; controlling = refl; operands = tt; contexts = tt; edges = edges-read (destination ∷ []) })
-  request-read declared (call.Brif condition block_then block_else) = (
+  asked-read numbers declared (call.Brif condition block_then block_else) = (
     refl,
     record {
       operation = refl;
@@ -223,11 +255,11 @@ module _ (reading : Reading) (naming : Naming) (plain ledger : Ledger) (joined :
       edges = edges-read (block_then ∷ block_else ∷ []);
     },
   )
-  request-read declared (call.Trap code) = (refl, record { operation = refl; controlling = refl; operands = tt; contexts = tt; edges = tt })
-  request-read declared (call.Return values) =
+  asked-read numbers declared (call.Trap code) = (refl, record { operation = refl; controlling = refl; operands = tt; contexts = tt; edges = tt })
+  asked-read numbers declared (call.Return values) =
       (refl, record { operation = refl; controlling = refl; operands = names-read values.items; contexts = tt; edges = tt })
-  request-read declared (call.BrTable index table) =
-      let edges = table-read reading plain.jump_tables ledger.jump_tables table joined.jump_tables in (
+  asked-read numbers declared (call.BrTable index table) =
+      let edges = table-read reading plain.jump_tables ledger.jump_tables (numbers JumpTables table) joined.jump_tables in (
         refl,
         record {
           operation = ap (λ (n : ℕ). BrTable (n - 1)) (as-long (IsReadEdge reading) _ _ edges);
@@ -237,51 +269,56 @@ module _ (reading : Reading) (naming : Naming) (plain ledger : Ledger) (joined :
           edges = edges;
         },
       )
-  request-read declared (call.Outside (outside.Call function args)) = (
+  asked-read numbers declared (call.Outside (outside.Call function args)) = (
     refl,
     record {
-      operation = ap (λ (tables : TableLists). meaning.Call (function_at tables function).name (signature_at tables (function_at tables function).signature)) joined.tables;
+      operation = ap (λ (tables : TableLists). meaning.Call (function_at tables (numbers Functions function)).name (signature_at tables (function_at tables (numbers Functions function)).signature)) joined.tables;
       controlling = refl;
       operands = names-read args.items;
       contexts = tt;
       edges = tt;
     },
   )
-  request-read declared (call.Outside (outside.CallIndirect signature callee args)) = (
+  asked-read numbers declared (call.Outside (outside.CallIndirect signature callee args)) = (
     refl,
     record {
-      operation = ap (λ (tables : TableLists). CallIndirect (signature_at tables signature)) joined.tables;
+      operation = ap (λ (tables : TableLists). CallIndirect (signature_at tables (numbers Signatures signature))) joined.tables;
       controlling = refl;
       operands = (reads callee, names-read args.items);
       contexts = tt;
       edges = tt;
     },
   )
-  request-read declared (call.Throwing (throwing.TryCall function args table)) =
-      let held = held-read table in
+  asked-read numbers declared (call.Throwing (throwing.TryCall function args table)) =
+      let held = held-read (numbers ExceptionTables table) in
       let tables = joined.tables in (
-        ap (λ (signature : ℕ). TriedBy table ∷ Imported (AFunctionRef function) ∷ Imported (ASignatureRef signature) ∷ []) held.signature,
+        ap (λ (signature : ℕ). TriedBy (numbers ExceptionTables table) ∷ Imported (AFunctionRef (numbers Functions function)) ∷ Imported (ASignatureRef signature) ∷ []) held.signature,
         record {
-          operation = ap (λ (lists : TableLists). TryCall (function_at lists function).name (record { signature = signature_at lists (exceptions_at plain table).signature; items = (exceptions_at plain table).items })) tables
-              ∙ ap (λ (signature : ℕ). TryCall (function_at ledger.tables function).name (record { signature = signature_at ledger.tables signature; items = (exceptions_at plain table).items })) held.signature
-              ∙ ap (λ (items : List CallItem). TryCall (function_at ledger.tables function).name (record { signature = signature_at ledger.tables (exceptions_at ledger table).signature; items = items })) held.items;
+          operation = ap (λ (lists : TableLists). TryCall (function_at lists (numbers Functions function)).name (record { signature = signature_at lists (exceptions_at plain (numbers ExceptionTables table)).signature; items = (exceptions_at plain (numbers ExceptionTables table)).items })) tables
+              ∙ ap (λ (signature : ℕ). TryCall (function_at ledger.tables (numbers Functions function)).name (record { signature = signature_at ledger.tables signature; items = (exceptions_at plain (numbers ExceptionTables table)).items })) held.signature
+              ∙ ap (λ (items : List CallItem). TryCall (function_at ledger.tables (numbers Functions function)).name (record { signature = signature_at ledger.tables (exceptions_at ledger (numbers ExceptionTables table)).signature; items = items })) held.items;
           controlling = refl;
           operands = names-read args.items;
           contexts = held.contexts;
           edges = held.edges;
         },
       )
-  request-read declared (call.Throwing (throwing.TryCallIndirect callee args table)) =
-      let held = held-read table in
+  asked-read numbers declared (call.Throwing (throwing.TryCallIndirect callee args table)) =
+      let held = held-read (numbers ExceptionTables table) in
       let tables = joined.tables in (
-        ap (λ (signature : ℕ). TriedBy table ∷ Imported (ASignatureRef signature) ∷ []) held.signature,
+        ap (λ (signature : ℕ). TriedBy (numbers ExceptionTables table) ∷ Imported (ASignatureRef signature) ∷ []) held.signature,
         record {
-          operation = ap (λ (lists : TableLists). TryCallIndirect (record { signature = signature_at lists (exceptions_at plain table).signature; items = (exceptions_at plain table).items })) tables
-              ∙ ap (λ (signature : ℕ). TryCallIndirect (record { signature = signature_at ledger.tables signature; items = (exceptions_at plain table).items })) held.signature
-              ∙ ap (λ (items : List CallItem). TryCallIndirect (record { signature = signature_at ledger.tables (exceptions_at ledger table).signature; items = items })) held.items;
+          operation = ap (λ (lists : TableLists). TryCallIndirect (record { signature = signature_at lists (exceptions_at plain (numbers ExceptionTables table)).signature; items = (exceptions_at plain (numbers ExceptionTables table)).items })) tables
+              ∙ ap (λ (signature : ℕ). TryCallIndirect (record { signature = signature_at ledger.tables signature; items = (exceptions_at plain (numbers ExceptionTables table)).items })) held.signature
+              ∙ ap (λ (items : List CallItem). TryCallIndirect (record { signature = signature_at ledger.tables (exceptions_at ledger (numbers ExceptionTables table)).signature; items = items })) held.items;
           controlling = refl;
           operands = (reads callee, names-read args.items);
           contexts = held.contexts;
           edges = held.edges;
         },
       )
+
+  pub request-read : (declared : SignatureShape) (c : Call) → IsReadRequest reading (request_under naming declared plain c) (request_of declared ledger c)
+  request-read declared c =
+      subst (λ (numbers : Numbers). IsReadRequest reading (request_with numbers naming declared plain c) (request_of declared ledger c)) (sym numbers-read)
+      (asked-read (numbers_in name_of ledger) declared c)

@@ -24,6 +24,7 @@ use Rattle.clif_resolution.specs.declared.answers.Answer.TheVariants as answer
 use Rattle.clif_instructions.specs.declared.block_call.BlockCall.{BlockCall}
 use Rattle.clif_meaning.specs.Instruction as meaning
 use Rattle.clif_meaning.specs.Name as named
+use Rattle.clif_replay.specs.Entries.{is_entry}
 use Rattle.clif_replay.specs.Requests.{Naming}
 use Rattle.clif_replay.specs.Ready.{AnswerIs, AreResults, IsAnswered, IsReady, KeepsTables, TablesAgree, no_answer}
 use Rattle.clif_resolution.specs.Answers.{AnswerExists, edge_at, edge_in, block_in, block_of, inst_in, inst_of, value_in, value_of}
@@ -32,16 +33,20 @@ use Rattle.clif_replay.proofs.Lasting.{LeavesTables, exceptions-kept, exceptions
 use Rattle.clif_replay.proofs.Options.{get-last, get-push, some-is, if-no, name-of-some}
 use Rattle.clif_resolution.proofs.Options.{get-below, map-some}
 
+-- an answer that is an entry of a table is none of another kind
+no-entry : (one other : Answered) → one ≡ other → is_entry other ≡ false → is_entry one ≡ true → ⊥
+no-entry one other same none is = false≢true (sym none ∙ sym (ap is_entry same) ∙ is)
+
 -- what the ledger says of a name, the builder says of its number
 pub read : {naming : Naming} {declared : SignatureShape} (calls : List AnsweredCall) (b : FunctionBuilder) (answers : List Answer) → IsReady naming declared calls b answers → IsReadByNumber calls b.func.now b.ctx.now
 read calls b answers ready = ready.reads calls b.func.now b.ctx.now b.position ready.stands.ledger
 
 -- a number that isn't 0
-past : {X : Type 0} (k : ℕ) (x y : X) → (if suc k == 0 then x else y) ≡ y
+pub past : {X : Type 0} (k : ℕ) (x y : X) → (if suc k == 0 then x else y) ≡ y
 past k x y = if-no (suc k == 0) x y (ne_eqb (suc k) 0 (λ same. omega (arith, same)))
 
 -- an answer, with what the ledger and the builder's calls say of the names that lead to it
-record Entry (naming : Naming) (calls : List AnsweredCall) (place : ℕ) (a : Answer) : Type 0 where
+pub record Entry (naming : Naming) (calls : List AnsweredCall) (place : ℕ) (a : Answer) : Type 0 where
   pub given : List Answered
   pub numbers : List ℕ
   pub is : AnswerIs a given numbers
@@ -57,7 +62,7 @@ number-there : (calls : List AnsweredCall) (place index : ℕ) (call : AnsweredC
     → number_of calls (named.answer_of place index) ≡ slice_get call.numbers index
 number-there calls place index call at = ap (option_and_then (λ (one : AnsweredCall). slice_get one.numbers index)) at
 
-entry : {naming : Naming} {declared : SignatureShape} (calls : List AnsweredCall) (b : FunctionBuilder) (answers : List Answer) → IsReady naming declared calls b answers
+pub entry : {naming : Naming} {declared : SignatureShape} (calls : List AnsweredCall) (b : FunctionBuilder) (answers : List Answer) → IsReady naming declared calls b answers
     → (place : ℕ) (a : Answer) → slice_get answers place ≡ Some a → Entry naming calls place a
 entry {naming} calls b answers ready place a at = by (ready.answered place a at)
   where
@@ -79,9 +84,7 @@ entry {naming} calls b answers ready place a at = by (ready.answered place a at)
     results x names (answer.Variable variable) are = absurd are
     results x names (answer.Inst inst) are = absurd are
     results x names (answer.Edge edge) are = absurd are
-    results x names answer.Table are = absurd are
-    results x names answer.Exceptions are = absurd are
-    results x names answer.Entry are = absurd are
+    results x names (answer.Entry table) are = absurd are
 
     -- names that lead behind all answers of a call
     empty : (x : IsAnswered naming calls place a) → ((name : Name) → name.place ≡ place → naming name ≡ named.answer_of x.other (length x.answered + name.answer)) → a ≡ no_answer
@@ -125,7 +128,7 @@ agrees calls b answers ready name a number answered numbered =
     (ready.stands.ledger.answers name.place call.0 given.0 call.1 given.1).each name.index a number given.2 call.2
 
 -- there is no answer behind the last call
-answer-past : {naming : Naming} {declared : SignatureShape} (calls : List AnsweredCall) (b : FunctionBuilder) (answers : List Answer) → IsReady naming declared calls b answers
+pub answer-past : {naming : Naming} {declared : SignatureShape} (calls : List AnsweredCall) (b : FunctionBuilder) (answers : List Answer) → IsReady naming declared calls b answers
     → (name : Name) → slice_get answers name.place ≡ None → answer_at (ledger_of calls) (naming name) ≡ None
 answer-past calls b answers ready name none =
     elim (cases_lt name.place (length answers)) [
@@ -184,10 +187,8 @@ block-found {naming} calls b answers ready name block found = by (slice_get answ
     by None at found = absurd (none-some block found)
     by (Some answer.Nothing) at found = absurd (none-some block found)
     by (Some (answer.Variable v)) at found = absurd (none-some block found)
-    by (Some answer.Entry) at found = absurd (none-some block found)
+    by (Some (answer.Entry table)) at found = absurd (none-some block found)
     by (Some (answer.Edge edge)) at found = absurd (none-some block found)
-    by (Some answer.Table) at found = absurd (none-some block found)
-    by (Some answer.Exceptions) at found = absurd (none-some block found)
     by (Some (answer.Values first count)) at found = absurd (none-some block found)
     by (Some (answer.Inst i)) at found = absurd (none-some block found)
     by (Some (answer.Block x)) at found = by_block x at name.answer refl found
@@ -214,25 +215,14 @@ block-missing {naming} calls b answers ready name missing =
         let one = one-answer e.given (AVariable v) name.answer ABlock e.is.0 (sym (e.told name refl) ∙ answered) in
         let wrong : AVariable v ≡ ABlock = one.1 in
         cc
-    by (Some answer.Entry) at missing answered =
-        let e = entry calls b answers ready name.place answer.Entry at in
-        let one = one-answer e.given (AnEntry e.is.0 e.is.1) name.answer ABlock e.is.2 (sym (e.told name refl) ∙ answered) in
-        let wrong : AnEntry e.is.0 e.is.1 ≡ ABlock = one.1 in
-        cc
+    by (Some (answer.Entry table)) at missing answered =
+        let e = entry calls b answers ready name.place (answer.Entry table) at in
+        let one = one-answer e.given e.is.0 name.answer ABlock e.is.2 (sym (e.told name refl) ∙ answered) in
+        no-entry e.is.0 ABlock one.1 refl e.is.5
     by (Some (answer.Edge edge)) at missing answered =
         let e = entry calls b answers ready name.place (answer.Edge edge) at in
         let one = one-answer e.given (AnEdge e.is.0) name.answer ABlock e.is.1 (sym (e.told name refl) ∙ answered) in
         let wrong : AnEdge e.is.0 ≡ ABlock = one.1 in
-        cc
-    by (Some answer.Table) at missing answered =
-        let e = entry calls b answers ready name.place answer.Table at in
-        let one = one-answer e.given (AJumpTable e.is.0) name.answer ABlock e.is.1 (sym (e.told name refl) ∙ answered) in
-        let wrong : AJumpTable e.is.0 ≡ ABlock = one.1 in
-        cc
-    by (Some answer.Exceptions) at missing answered =
-        let e = entry calls b answers ready name.place answer.Exceptions at in
-        let one = one-answer e.given (AnExceptionTable e.is.0) name.answer ABlock e.is.1 (sym (e.told name refl) ∙ answered) in
-        let wrong : AnExceptionTable e.is.0 ≡ ABlock = one.1 in
         cc
     by (Some (answer.Values first count)) at missing answered =
         let e = entry calls b answers ready name.place (answer.Values first count) at in
@@ -264,10 +254,8 @@ inst-at answers name inst found = by (slice_get answers name.place) refl found
     by (Some answer.Nothing) at found = absurd (none-some inst found)
     by (Some (answer.Block x)) at found = absurd (none-some inst found)
     by (Some (answer.Variable v)) at found = absurd (none-some inst found)
-    by (Some answer.Entry) at found = absurd (none-some inst found)
+    by (Some (answer.Entry table)) at found = absurd (none-some inst found)
     by (Some (answer.Edge edge)) at found = absurd (none-some inst found)
-    by (Some answer.Table) at found = absurd (none-some inst found)
-    by (Some answer.Exceptions) at found = absurd (none-some inst found)
     by (Some (answer.Values first count)) at found = absurd (none-some inst found)
     by (Some (answer.Inst i)) at found = by_inst i at name.answer refl found
 
@@ -322,21 +310,13 @@ inst-missing {naming} calls b answers ready name missing =
         let e = entry calls b answers ready name.place (answer.Variable v) at in
         let wrong : AVariable v ≡ AnInstruction = one-wrong (answer.Variable v) (AVariable v) e e.is.0 answered in
         cc
-    by (Some answer.Entry) at missing answered =
-        let e = entry calls b answers ready name.place answer.Entry at in
-        let wrong : AnEntry e.is.0 e.is.1 ≡ AnInstruction = one-wrong answer.Entry (AnEntry e.is.0 e.is.1) e e.is.2 answered in
-        cc
+    by (Some (answer.Entry table)) at missing answered =
+        let e = entry calls b answers ready name.place (answer.Entry table) at in
+        let one = one-answer e.given e.is.0 name.answer AnInstruction e.is.2 (sym (e.told name refl) ∙ answered) in
+        no-entry e.is.0 AnInstruction one.1 refl e.is.5
     by (Some (answer.Edge edge)) at missing answered =
         let e = entry calls b answers ready name.place (answer.Edge edge) at in
         let wrong : AnEdge e.is.0 ≡ AnInstruction = one-wrong (answer.Edge edge) (AnEdge e.is.0) e e.is.1 answered in
-        cc
-    by (Some answer.Table) at missing answered =
-        let e = entry calls b answers ready name.place answer.Table at in
-        let wrong : AJumpTable e.is.0 ≡ AnInstruction = one-wrong answer.Table (AJumpTable e.is.0) e e.is.1 answered in
-        cc
-    by (Some answer.Exceptions) at missing answered =
-        let e = entry calls b answers ready name.place answer.Exceptions at in
-        let wrong : AnExceptionTable e.is.0 ≡ AnInstruction = one-wrong answer.Exceptions (AnExceptionTable e.is.0) e e.is.1 answered in
         cc
     by (Some (answer.Values first count)) at missing answered =
         let e = entry calls b answers ready name.place (answer.Values first count) at in
@@ -437,10 +417,8 @@ value-found {naming} calls b answers ready name value found = by (slice_get answ
     by None at found = absurd (none-some value found)
     by (Some answer.Nothing) at found = absurd (none-some value found)
     by (Some (answer.Variable v)) at found = absurd (none-some value found)
-    by (Some answer.Entry) at found = absurd (none-some value found)
+    by (Some (answer.Entry table)) at found = absurd (none-some value found)
     by (Some (answer.Edge edge)) at found = absurd (none-some value found)
-    by (Some answer.Table) at found = absurd (none-some value found)
-    by (Some answer.Exceptions) at found = absurd (none-some value found)
     by (Some (answer.Block x)) at found = absurd (none-some value found)
     by (Some (answer.Values first count)) at found = by_values first count at (nat_lt name.answer count) refl found
     by (Some (answer.Inst i)) at found = by_inst i at name.answer refl found
@@ -478,25 +456,14 @@ value-missing {naming} calls b answers ready name missing =
         let one = one-answer e.given (AVariable v) name.answer (AValue ty) e.is.0 (sym (e.told name refl) ∙ answered) in
         let wrong : AVariable v ≡ AValue ty = one.1 in
         cc
-    by ty (Some answer.Entry) at missing answered =
-        let e = entry calls b answers ready name.place answer.Entry at in
-        let one = one-answer e.given (AnEntry e.is.0 e.is.1) name.answer (AValue ty) e.is.2 (sym (e.told name refl) ∙ answered) in
-        let wrong : AnEntry e.is.0 e.is.1 ≡ AValue ty = one.1 in
-        cc
+    by ty (Some (answer.Entry table)) at missing answered =
+        let e = entry calls b answers ready name.place (answer.Entry table) at in
+        let one = one-answer e.given e.is.0 name.answer (AValue ty) e.is.2 (sym (e.told name refl) ∙ answered) in
+        no-entry e.is.0 (AValue ty) one.1 refl e.is.5
     by ty (Some (answer.Edge edge)) at missing answered =
         let e = entry calls b answers ready name.place (answer.Edge edge) at in
         let one = one-answer e.given (AnEdge e.is.0) name.answer (AValue ty) e.is.1 (sym (e.told name refl) ∙ answered) in
         let wrong : AnEdge e.is.0 ≡ AValue ty = one.1 in
-        cc
-    by ty (Some answer.Table) at missing answered =
-        let e = entry calls b answers ready name.place answer.Table at in
-        let one = one-answer e.given (AJumpTable e.is.0) name.answer (AValue ty) e.is.1 (sym (e.told name refl) ∙ answered) in
-        let wrong : AJumpTable e.is.0 ≡ AValue ty = one.1 in
-        cc
-    by ty (Some answer.Exceptions) at missing answered =
-        let e = entry calls b answers ready name.place answer.Exceptions at in
-        let one = one-answer e.given (AnExceptionTable e.is.0) name.answer (AValue ty) e.is.1 (sym (e.told name refl) ∙ answered) in
-        let wrong : AnExceptionTable e.is.0 ≡ AValue ty = one.1 in
         cc
     by ty (Some (answer.Block x)) at missing answered =
         let e = entry calls b answers ready name.place (answer.Block x) at in
@@ -538,10 +505,8 @@ answers-exist {naming} calls b answers ready k inside =
     by answer.Nothing at = tt
     by (answer.Block x) at = tt
     by (answer.Variable v) at = tt
-    by answer.Entry at = tt
+    by (answer.Entry table) at = tt
     by (answer.Edge edge) at = tt
-    by answer.Table at = tt
-    by answer.Exceptions at = tt
     by (answer.Values first count) at = λ j below.
         let e = entry calls b answers ready k (answer.Values first count) at in
         let there : j < length e.is.0 = omega (arith, below, e.is.3) in
@@ -727,9 +692,7 @@ edge-found {naming} calls b answers ready name made found = by (slice_get answer
     by None at found = absurd (none-some made found)
     by (Some answer.Nothing) at found = absurd (none-some made found)
     by (Some (answer.Variable v)) at found = absurd (none-some made found)
-    by (Some answer.Entry) at found = absurd (none-some made found)
-    by (Some answer.Table) at found = absurd (none-some made found)
-    by (Some answer.Exceptions) at found = absurd (none-some made found)
+    by (Some (answer.Entry table)) at found = absurd (none-some made found)
     by (Some (answer.Values first count)) at found = absurd (none-some made found)
     by (Some (answer.Inst i)) at found = absurd (none-some made found)
     by (Some (answer.Block x)) at found = absurd (none-some made found)
@@ -772,18 +735,10 @@ edge-missing {naming} calls b answers ready name missing =
           | inl first ↦ let wrong : AnInstruction ≡ AnEdge edge = first.1 in cc
           | inr later ↦ let wrong : AValue later.2 ≡ AnEdge edge = later.3 in cc
         ]
-    by edge (Some answer.Entry) at missing answered =
-        let e = entry calls b answers ready name.place answer.Entry at in
-        let wrong : AnEntry e.is.0 e.is.1 ≡ AnEdge edge = (one-answer e.given (AnEntry e.is.0 e.is.1) name.answer (AnEdge edge) e.is.2 (sym (e.told name refl) ∙ answered)).1 in
-        cc
-    by edge (Some answer.Table) at missing answered =
-        let e = entry calls b answers ready name.place answer.Table at in
-        let wrong : AJumpTable e.is.0 ≡ AnEdge edge = (one-answer e.given (AJumpTable e.is.0) name.answer (AnEdge edge) e.is.1 (sym (e.told name refl) ∙ answered)).1 in
-        cc
-    by edge (Some answer.Exceptions) at missing answered =
-        let e = entry calls b answers ready name.place answer.Exceptions at in
-        let wrong : AnExceptionTable e.is.0 ≡ AnEdge edge = (one-answer e.given (AnExceptionTable e.is.0) name.answer (AnEdge edge) e.is.1 (sym (e.told name refl) ∙ answered)).1 in
-        cc
+    by edge (Some (answer.Entry table)) at missing answered =
+        let e = entry calls b answers ready name.place (answer.Entry table) at in
+        let one = one-answer e.given e.is.0 name.answer (AnEdge edge) e.is.2 (sym (e.told name refl) ∙ answered) in
+        no-entry e.is.0 (AnEdge edge) one.1 refl e.is.5
     by edge (Some (answer.Edge made)) at missing answered =
         let e = entry calls b answers ready name.place (answer.Edge made) at in
         by_edge made name.answer (one-answer e.given (AnEdge e.is.0) name.answer (AnEdge edge) e.is.1 (sym (e.told name refl) ∙ answered)).0 missing

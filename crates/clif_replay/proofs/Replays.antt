@@ -1,9 +1,11 @@
 -- What a replay answers, from what the calls and `finalize` answered.
-use Rattle.std.proofs.Common.{arith, ◌≡◌, ◌<◌, ◌≤◌, ℕ, List, length, refl, ap, sym, ◌∙◌, subst, inl, inr}
-use Rattle.std.specs.Prelude.{false, true, Err, IfOk, Ok, OnOk, Result, Some, slice_get}
+use Rattle.std.proofs.Common.{arith, ◌≡◌, ◌<◌, ◌≤◌, ℕ, List, [], ◌∷◌, length, refl, ap, sym, ◌∙◌, subst, inl, inr}
+use Rattle.std.specs.Prelude.{◌≢◌, ◌⊎◌, Bool, false, true, Err, IfOk, Ok, OnOk, Result, Some, slice_get}
 use Rattle.clif_types.specs.Signature.{SignatureShape}
+use Rattle.clif_types.specs.Target.{pointer_type_of}
 use Rattle.clif_types.specs.declared.extname.UserFuncName.{UserFuncName}
 use Rattle.clif_types.specs.declared.target.TargetFrontendConfig.{TargetFrontendConfig}
+use Rattle.clif_types.specs.declared.types.«Type».{«Type»}
 use Rattle.clif_ir.specs.Body.{Body, empty_body}
 use Rattle.clif_meaning.specs.View.{view_of}
 use Rattle.clif_meaning.specs.Headline.{MeansTheSame, pointer_bits}
@@ -13,53 +15,71 @@ use Rattle.clif_meaning.specs.Typing.{EdgesMatch}
 use Rattle.clif_meaning.specs.WellPlaced.{WellPlaced}
 use Rattle.clif_meaning.specs.Request.{AnsweredCall, Finalize, script_of}
 use Rattle.clif_meaning.specs.Acceptance.{Accepted, Misuse, Refused, refusal_of}
+use Rattle.clif_records.specs.Tracking.{recorded_of}
+use Rattle.clif_safepoints.specs.Contexts.{IsFirstTracked}
 use Rattle.clif_builder.specs.declared.builder.FunctionBuilder.{FunctionBuilder}
 use Rattle.clif_builder.specs.declared.error.FinalizeError.{FinalizeError}
+use Rattle.clif_builder.specs.declared.error.FinalizeError.TheVariants as ending
 use Rattle.clif_builder.specs.Builder.{SameLoans}
-use Rattle.clif_builder.specs.Ending.{AsFound}
-use Rattle.clif_builder.specs.Ledger.{RefusalAgrees}
+use Rattle.clif_builder.specs.Ending.{AsFound, BecomesSpilled, EndsByLedger}
 use Rattle.clif_builder.specs.Ledger.{ledger_of as plain_ledger_of}
 use Rattle.clif_builder.specs.StandsFor.{LeavesNoParameter, StandsFor, StandsIn}
 use Rattle.clif_calls.specs.declared.call.Call.{Call}
 use Rattle.clif_resolution.specs.declared.answers.CallError.{CallError}
 use Rattle.clif_resolution.specs.declared.answers.CallError.TheVariants as error
-use Rattle.clif_replay.specs.Errors.{replay_error_at}
+use Rattle.clif_replay.specs.Errors.{end_error_at, replay_error_at}
 use Rattle.clif_replay.specs.declared.script.ReplayError.{ReplayError}
 use Rattle.clif_replay.specs.declared.script.ReplayError.TheVariants as replay
 use Rattle.clif_replay.specs.Replay.{ReplayMakes, ReplayTells}
 use Rattle.clif_replay.specs.Requests.{attempts_of, calls_of, is_refusable}
-use Rattle.clif_replay.specs.Replayed.{IsReplayed, IsStoppedByTable, MayBeRefused}
+use Rattle.clif_replay.specs.Replayed.{Found, IsReplayed, IsStoppedByTable, IsStoppedInSpilling, MayBeRefused, TellsVerdict, recorded_in}
 use Rattle.clif_expansion.specs.CallsVerdict.{verdict_on_call_attempts}
 use Rattle.clif_expansion.proofs.calls.Headline.{keep_premises}
-use Rattle.clif_replay.proofs.Verdicts.{all-of-width, all-replayed, means-replayed, verdict-accepted}
+use Rattle.clif_replay.proofs.Verdicts.{all-of-width, all-replayed, full-spilling, means-replayed, verdict-accepted, verdict-refused}
+
+-- it keeps its name
+pub spilled-name : (f g : Body) (recorded : List ℕ) (pointer : «Type») → BecomesSpilled f recorded pointer g → g.name ≡ f.name
+spilled-name f g [] pointer same = ap (λ (x : Body). x.name) same
+spilled-name f g (value ∷ recorded) pointer spilled = spilled.0.name
+
+-- what `finalize` finds, once all calls were made
+abbrev pub found-by : (calls : List Call) (declared : SignatureShape) (config : TargetFrontendConfig) (made : List AnsweredCall) (b : FunctionBuilder) → StandsFor declared made b
+    → IsReplayed config declared calls (length calls) made → Found config calls declared
+found-by calls declared config made b stands replayed = record {
+  function = b.func.now;
+  made = made;
+  plain = all-replayed config declared calls made replayed;
+  context = b.ctx.now;
+  position = b.position;
+  stands = stands;
+}
 
 -- all calls were made, and `finalize` succeeded: `f` is the function that it left
 pub finished-replay : (calls : List Call) (declared : SignatureShape) (config : TargetFrontendConfig) (made : List AnsweredCall) (b : FunctionBuilder) (f : Body) (r : Result (Unit {0}) FinalizeError)
-    → (named : UserFuncName) → b.func.now.name ≡ named → f ≡ b.func.now
+    → (named : UserFuncName) → f.name ≡ named → BecomesSpilled b.func.now (recorded_of b.ctx.now.ssa.tracking) (pointer_type_of config.pointer_width) f
     → StandsFor declared made b → IsReplayed config declared calls (length calls) made
     → MeansTheSame (script_of made) declared config.pointer_width (view_of f)
     → (CallersEdgesMatch (script_of made) → EdgesMatch (view_of f))
     → AsFound declared config.pointer_width made b
-    → RefusalAgrees made (refusal_of (plain_ledger_of made) Finalize) r → r ≡ Ok tt
+    → EndsByLedger made (refusal_of (plain_ledger_of made) Finalize) b.func.now (recorded_of b.ctx.now.ssa.tracking) r → r ≡ Ok tt
     → ReplayMakes calls named declared config f
-finished-replay calls declared config made b f r named name same stands replayed meaning matches found agrees is =
+finished-replay calls declared config made b f r named name spilled stands replayed meaning matches found ends is =
     let all = all-replayed config declared calls made replayed in
+    let accepted = verdict-accepted config declared calls made b.func.now (recorded_of b.ctx.now.ssa.tracking) r replayed ends is in
     record {
       same_meaning = means-replayed config declared calls made f replayed meaning;
       built = record {
-        made = made;
-        plain = all;
-        context = b.ctx.now;
-        position = b.position;
-        stands = subst (λ (g : Body). StandsIn declared made g b.ctx.now b.position) (sym same) stands;
-        parameters = subst (λ (g : Body). LeavesNoParameter made g b.ctx.now.ssa) (sym same) found.parameters;
+        found = found-by calls declared config made b stands replayed;
+        parameters = found.parameters;
+        well_placed = λ premises.
+            found.well_placed (keep_premises.placement (pointer_bits config.pointer_width) all.reading (script_of made) (calls_of config declared calls) all.joined
+            (all.performed (pointer_bits config.pointer_width) (all-of-width config declared empty_ledger calls)) declared premises);
+        contexts = accepted.1;
+        spilled = spilled;
       };
       edges_match = λ typed. matches (keep_premises.edges_match all.reading (script_of made) (calls_of config declared calls) all.joined typed);
-      well_placed = λ premises.
-          subst (λ (g : Body). WellPlaced (view_of g)) (sym same)
-          (found.well_placed (keep_premises.placement (pointer_bits config.pointer_width) all.reading (script_of made) (calls_of config declared calls) all.joined (all.performed (pointer_bits config.pointer_width) (all-of-width config declared empty_ledger calls)) declared premises));
-      named = ap (λ (g : Body). g.name) same ∙ name;
-      accepted = verdict-accepted config declared calls made r replayed agrees is;
+      named = name;
+      accepted = accepted.0;
     }
 
 -- the function is this one
@@ -68,25 +88,51 @@ finished-as calls old config start f g begins ends done =
     subst (λ (x : Body). ReplayMakes calls x.name x.signature config g) begins
     (subst (λ (x : Body). ReplayMakes calls start.name start.signature config x) (sym ends) done)
 
--- `finalize` refused
-pub told-refused : (config : TargetFrontendConfig) (calls : List Call) (start old : Body) (place : ℕ) → start ≡ old → place ≡ length calls → verdict_on_call_attempts (attempts_of config start.signature calls) ≡ Refused (length calls)
-    → ReplayTells calls old.name old.signature config (Err (replay.Refused place))
-told-refused config calls start old place begins is refused =
-    subst (λ (x : Body). ReplayTells calls x.name x.signature config (Err (replay.Refused place))) begins (record {
+-- `finalize` refused, which tells the verdict
+pub told-refused : (config : TargetFrontendConfig) (calls : List Call) (start old : Body) → start ≡ old
+    → TellsVerdict config calls start.signature (Err (replay.Refused (length calls)))
+    → ReplayTells calls old.name old.signature config (Err (replay.Refused (length calls)))
+told-refused config calls start old begins tells =
+    subst (λ (x : Body). ReplayTells calls x.name x.signature config (Err (replay.Refused (length calls)))) begins (record {
       misuse = λ i told. absurd (no-misuse i told);
-      refused = λ i told. inl (sym (same i told) ∙ is);
+      refused = λ i told. inl (sym (same i told));
       table_full = λ told. absurd (no-full told);
-      verdict = λ not_memory not_full. ap (λ (i : ℕ). Some (Refused i)) is ∙ ap Some (sym refused);
+      verdict = λ not_memory not_full. tells;
     })
   where
-    no-misuse : (i : ℕ) → ◌≡◌ {A = Result Body ReplayError} (Err (replay.Refused place)) (Err (replay.Misuse i)) → ⊥
+    no-misuse : (i : ℕ) → ◌≡◌ {A = Result Body ReplayError} (Err (replay.Refused (length calls))) (Err (replay.Misuse i)) → ⊥
     no-misuse i h = cc
 
-    no-full : ◌≡◌ {A = Result Body ReplayError} (Err (replay.Refused place)) (Err replay.Full) → ⊥
+    no-full : ◌≡◌ {A = Result Body ReplayError} (Err (replay.Refused (length calls))) (Err replay.Full) → ⊥
     no-full h = cc
 
-    same : (i : ℕ) → ◌≡◌ {A = Result Body ReplayError} (Err (replay.Refused place)) (Err (replay.Refused i)) → place ≡ i
+    same : (i : ℕ) → ◌≡◌ {A = Result Body ReplayError} (Err (replay.Refused (length calls))) (Err (replay.Refused i)) → length calls ≡ i
     same i h = cc
+
+-- by the verdict, or for a context
+pub refused-for : (config : TargetFrontendConfig) (calls : List Call) (declared : SignatureShape) (found : Found config calls declared)
+    → (verdict_on_call_attempts (attempts_of config declared calls) ≡ Refused (length calls))
+    ⊎ ((verdict_on_call_attempts (attempts_of config declared calls) ≡ Accepted) × ((inst : ℕ) × IsFirstTracked found.function (recorded_in found) (Some inst)))
+    → TellsVerdict config calls declared (Err (replay.Refused (length calls)))
+refused-for config calls declared found (inl verdict) = inl (ap Some (sym verdict))
+refused-for config calls declared found (inr (verdict, (inst, tracked))) = inr (refl, record { accepted = verdict; found = found; inst = inst; tracked = tracked })
+
+-- a table was full while values were spilled
+pub told-full : (config : TargetFrontendConfig) (calls : List Call) (start old : Body) → start ≡ old → IsStoppedInSpilling config calls start.signature
+    → ReplayTells calls old.name old.signature config (Err replay.Full)
+told-full config calls start old begins stopped =
+    subst (λ (x : Body). ReplayTells calls x.name x.signature config (Err replay.Full)) begins (record {
+      misuse = λ i told. absurd (no-misuse i told);
+      refused = λ i told. absurd (no-refusal i told);
+      table_full = λ told. inr stopped;
+      verdict = λ not_memory not_full. absurd (not_full refl);
+    })
+  where
+    no-misuse : (i : ℕ) → ◌≡◌ {A = Result Body ReplayError} (Err replay.Full) (Err (replay.Misuse i)) → ⊥
+    no-misuse i h = cc
+
+    no-refusal : (i : ℕ) → ◌≡◌ {A = Result Body ReplayError} (Err replay.Full) (Err (replay.Refused i)) → ⊥
+    no-refusal i h = cc
 
 -- memory was refused
 pub told-memory : (config : TargetFrontendConfig) (calls : List Call) (old : Body) → ReplayTells calls old.name old.signature config (Err replay.Memory)
@@ -106,13 +152,48 @@ told-memory config calls old = record {
     no-full : ◌≡◌ {A = Result Body ReplayError} (Err replay.Memory) (Err replay.Full) → ⊥
     no-full h = cc
 
+-- `finalize` refused neither for memory nor for a full table
+abbrev is_other : FinalizeError → Bool
+is_other ending.Memory = false
+is_other ending.Full = false
+is_other _ = true
+
+other-than : (e other : FinalizeError) → is_other e ≡ true → is_other other ≡ false → e ≢ other
+other-than e other is isnt same = let no_way : true ≡ false = sym is ∙ ap is_other same ∙ isnt in let never : ⊥ = cc in never
+
+-- all calls were made, and `finalize` refused
+pub told-end : (config : TargetFrontendConfig) (calls : List Call) (start old : Body) → start ≡ old → (made : List AnsweredCall) (b : FunctionBuilder) (r : Result (Unit {0}) FinalizeError) (e : FinalizeError)
+    → StandsFor start.signature made b → IsReplayed config start.signature calls (length calls) made
+    → EndsByLedger made (refusal_of (plain_ledger_of made) Finalize) b.func.now (recorded_of b.ctx.now.ssa.tracking) r → r ≡ Err e
+    → ReplayTells calls old.name old.signature config (Err (end_error_at e (length calls)))
+told-end config calls start old begins made b r e stands replayed ends is = by e is
+  where
+    refused : (error : FinalizeError) → r ≡ Err error → is_other error ≡ true → ReplayTells calls old.name old.signature config (Err (replay.Refused (length calls)))
+    refused error at other =
+        told-refused config calls start old begins
+        (refused-for config calls start.signature (found-by calls start.signature config made b stands replayed)
+        (verdict-refused config start.signature calls made b.func.now (recorded_of b.ctx.now.ssa.tracking) r error replayed ends at
+        (other-than error ending.Memory other refl) (other-than error ending.Full other refl)))
+
+    by : (error : FinalizeError) → r ≡ Err error → ReplayTells calls old.name old.signature config (Err (end_error_at error (length calls)))
+    by ending.Memory at = told-memory config calls old
+    by ending.Full at =
+        told-full config calls start old begins (record {
+          found = found-by calls start.signature config made b stands replayed;
+          some = full-spilling made b.func.now (recorded_of b.ctx.now.ssa.tracking) r ends at;
+        })
+    by ending.Failed at = refused ending.Failed at refl
+    by (ending.Unsealed block) at = refused (ending.Unsealed block) at refl
+    by (ending.Unfilled block) at = refused (ending.Unfilled block) at refl
+    by (ending.TrackedContext inst) at = refused (ending.TrackedContext inst) at refl
+
 -- a function was made
 pub told-answer : (config : TargetFrontendConfig) (calls : List Call) (name : UserFuncName) (declared : SignatureShape) (f : Body) → verdict_on_call_attempts (attempts_of config declared calls) ≡ Accepted → ReplayTells calls name declared config (Ok f)
 told-answer config calls name declared f accepted = record {
   misuse = λ i told. absurd (no-error (replay.Misuse i) told);
   refused = λ i told. absurd (no-error (replay.Refused i) told);
   table_full = λ told. absurd (no-error replay.Full told);
-  verdict = λ not_memory not_full. ap Some (sym accepted);
+  verdict = λ not_memory not_full. inl (ap Some (sym accepted));
 }
   where
     no-error : (e : ReplayError) → ◌≡◌ {A = Result Body ReplayError} (Ok f) (Err e) → ⊥

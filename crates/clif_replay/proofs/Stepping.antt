@@ -39,11 +39,14 @@ use Rattle.clif_resolution.specs.declared.answers.CallError.TheVariants as error
 use Rattle.clif_replay.specs.Cases.{switch_under}
 use Rattle.clif_replay.specs.Emits.{IsSwitchJudged, MakesEmission, MakesHelper, MakesMoved, MakesScriptCall, MakesSwitch, plain_calls_under}
 use Rattle.clif_replay.specs.Helpers.{helper_under, moves_nothing, nothing_moved, operands_in, operation_in}
+use Rattle.clif_resolution.specs.Entries.{numbers_at}
+use Rattle.clif_replay.specs.Entries.{numbers_in}
 use Rattle.clif_replay.specs.Limits.{MeetsFullTable}
 use Rattle.clif_replay.specs.Makes.{MakesCall}
 use Rattle.clif_replay.specs.Ready.{IsCallJudged, IsJudged, IsReady, types_after}
 use Rattle.clif_replay.specs.Requests.{Naming, call_of, emission_under, is_refusable, is_tried, name_of, request_of, request_under}
-use Rattle.clif_replay.proofs.Known.{AreKnown, allowed-same, blamed-same, emitted-same, helper-same, known-asked, known-emitted, known-helped, known-switched, switch-refused, switch-same}
+use Rattle.clif_replay.proofs.Numbers.{numbers-same}
+use Rattle.clif_replay.proofs.Known.{numbers-known, AreKnown, allowed-same, blamed-same, emitted-same, helper-same, known-asked, known-emitted, known-helped, known-switched, switch-refused, switch-same}
 use Rattle.clif_replay.proofs.Nowhere.{AreAnswered}
 use Rattle.clif_replay.proofs.ReadyLaws.{read}
 
@@ -71,7 +74,7 @@ pub record IsStep (config : TargetFrontendConfig) (c : Call) (old new : Function
   pub name : OnOk result (new.func.now.name ≡ old.func.now.name)
   pub sound : OnOk result (new.failed ≡ false)
   pub refused : result ≡ Err error.Refused → is_refusable c ≡ true
-  pub full : result ≡ Err error.Full → MeetsFullTable c old.func.now old.ctx.now
+  pub full : result ≡ Err error.Full → MeetsFullTable (numbers_at old.func.now answers) c old.func.now old.ctx.now
   pub variables : OnOk result (new.ctx.now.variables ≡ types_after c old.ctx.now.variables)
 
 -- how many answers there are behind one call more
@@ -133,6 +136,14 @@ later-names : (naming : Naming) (declared : SignatureShape) (made : List Answere
     → (name : Name) (k : ℕ) → name.place ≡ length answers + k → naming name ≡ answer_of (length (ledger_after (script_of made)).answers + k) name.answer
 later-names naming declared made b answers ready name k place =
     ready.later name k place ∙ ap (λ (n : ℕ). answer_of (n + k) name.answer) (sym (as_many made))
+
+-- names of entries stand for the same numbers in the script's ledger
+pub in-step-numbers : (config : TargetFrontendConfig) (declared : SignatureShape) (script : List ScriptCall) (b : FunctionBuilder) (answers : List Answer) → IsInStep config declared script b answers
+    → numbers_at b.func.now answers ≡ numbers_in name_of (ledger_of script)
+in-step-numbers config declared script b answers s =
+    sym (numbers-same s.made b answers s.ready)
+    ∙ numbers-known s.naming (length answers) (script_of s.made) script s.known s.counts (later-names s.naming declared s.made b answers s.ready)
+    (ready-answered s.naming declared s.made b answers s.ready)
 
 -- a call that is only tried may be refused
 tried-refusable : (c : Call) → is_tried c ≡ true → is_refusable c ≡ true

@@ -21,7 +21,7 @@ use Rattle.clif_tables.specs.Callees.{count_of_results}
 use Rattle.clif_tables.specs.Lists.{TableLists, with_exception_table}
 use Rattle.clif_ir.specs.Body.{Body, inst_at}
 use Rattle.clif_ir.specs.Consistent.{EntryExists, PassedExists, ValueExists}
-use Rattle.clif_meaning.specs.Acceptance.{allows, has_item}
+use Rattle.clif_meaning.specs.Acceptance.{allows, has_entry, has_item, try_call, try_call_indirect}
 use Rattle.clif_meaning.specs.Event.{CallItem}
 use Rattle.clif_meaning.specs.Event as event
 use Rattle.clif_meaning.specs.Instruction.{Known}
@@ -44,7 +44,9 @@ use Rattle.clif_calls.specs.declared.table.ThrowingCall.{ThrowingCall}
 use Rattle.clif_calls.specs.declared.table.ThrowingCall.TheVariants as throwing
 use Rattle.clif_resolution.specs.declared.answers.Answer.{Answer}
 use Rattle.clif_resolution.specs.declared.answers.Answer.TheVariants as answer
-use Rattle.clif_resolution.specs.Callings.{can_try, has_callee, throwing_shape}
+use Rattle.clif_resolution.specs.declared.answers.Entry.TheVariants as entry
+use Rattle.clif_resolution.specs.Entries.{ExceptionTables, Functions, Numbers, numbers_at}
+use Rattle.clif_resolution.specs.Callings.{can_try, has_callee, table_in, throwing_shape}
 use Rattle.clif_replay.specs.Ready.{AnswerIs, IsReady, IsReadyAfter, TableAgrees, TablesAgree}
 use Rattle.clif_resolution.specs.Answers.{all_items, all_values, edge_at, item_in, value_of}
 use Rattle.clif_resolution.specs.Conditions.{can_seal, is_open, tries, tries_at}
@@ -91,10 +93,12 @@ module _ {naming : Naming} {declared : SignatureShape} (calls : List AnsweredCal
 
   -- a table may be made in the ledger where it may be made here
   pub exceptions-same : (signature : ℕ) (normal : Name) (items : List TableItem)
-      → allows (ledger_of calls) (MakeExceptionTable signature (naming normal) (map (item_of naming) items)) ≡ (is_some (edge_at answers normal) && all_items b.func.now answers items)
+      → allows (ledger_of calls) (MakeExceptionTable signature (naming normal) (map (item_of naming) items))
+      ≡ (is_some (edge_at answers normal) && all_items b.func.now answers items && nat_lt signature (length b.func.now.tables.signatures))
   exceptions-same signature normal items =
-      ap (λ (test : Bool). test && list_all (has_item (ledger_of calls)) (map (item_of naming) items)) (edge-one normal)
-      ∙ ap (λ (rest : Bool). is_some (edge_at answers normal) && rest) (items-same items)
+      ap (λ (test : Bool). test && list_all (has_item (ledger_of calls)) (map (item_of naming) items) && has_entry (ledger_of calls).tables (ASignatureRef signature)) (edge-one normal)
+      ∙ ap (λ (rest : Bool). is_some (edge_at answers normal) && rest && has_entry (ledger_of calls).tables (ASignatureRef signature)) (items-same items)
+      ∙ ap (λ (tables : TableLists). is_some (edge_at answers normal) && all_items b.func.now answers items && has_entry tables (ASignatureRef signature)) ready.stands.ledger.tables
 
   -- items name what was found
   record ItemsNamed (items : List TableItem) (made : List ExceptionTableItem) : Type 0 where
@@ -190,10 +194,11 @@ exceptions-there f answers normal items edge made at found =
 pub exceptions-ready : TableCallsAddNothing → {naming : Naming} {declared : SignatureShape} (calls : List AnsweredCall) (old new : FunctionBuilder) (answers : List Answer) (signature : ℕ) (normal : Name)
     (items : List TableItem) (given : ExceptionTableData) (number : ℕ) → IsReady naming declared calls old answers → given.sig ≡ signature → edge_at answers normal ≡ Some given.normal
     → map (item_in old.func.now answers) items ≡ map Some given.items.items → CreatesExceptionTable given old new (Ok number)
-    → IsReadyAfter naming declared calls (MakeExceptionTable signature (naming normal) (map (item_of naming) items)) new answers answer.Exceptions
+    → IsReadyAfter naming declared calls (MakeExceptionTable signature (naming normal) (map (item_of naming) items)) new answers (answer.Entry (entry.ExceptionTable number))
 exceptions-ready law {naming} {declared} calls old new answers signature normal items given number ready same at found creates = (
   number ∷ [],
-  ready-answered calls call old new answers answer.Exceptions ready stands (number, ap (λ (n : ℕ). AnExceptionTable n ∷ []) (sym counts), refl)
+  ready-answered calls call old new answers (answer.Entry (entry.ExceptionTable number)) ready stands
+      (AnExceptionTable number, number, ap (λ (n : ℕ). AnExceptionTable n ∷ []) (sym counts), refl, refl, refl)
       (λ made is. let no_way : ⊥ = cc in absurd no_way)
       (tables-still calls call old new answers ready stands refl (ap (λ (f : Body). f.tables.jump_tables) creates.sets.function)) exceptions,
 )
@@ -263,16 +268,17 @@ contexts-there calls (name ∷ names) [] names-them = absurd names-them
 contexts-there calls (name ∷ names) (value ∷ values) names-them =
     and_from (has_value (ledger_of calls) name) (list_all (has_value (ledger_of calls)) names) names-them.0.is_value (contexts-there calls names values names-them.1)
 
--- a call is allowed where it may be made
-pub throwing-same : {naming : Naming} {declared : SignatureShape} (calls : List AnsweredCall) (b : FunctionBuilder) (answers : List Answer) → IsReady naming declared calls b answers
-    → (called : ThrowingCall) → allows (ledger_of calls) (throwing_request naming (ledger_of calls) called) ≡ can_try b answers called
-throwing-same {naming} calls b answers ready (throwing.TryCall function args table) = by (table_held exception_tables b table) refl
+-- a call of this function along the edges of this table is allowed where it may be made, and so is one of an address
+function-same : {naming : Naming} {declared : SignatureShape} (calls : List AnsweredCall) (b : FunctionBuilder) (answers : List Answer) → IsReady naming declared calls b answers
+    → (function table : ℕ) (args : List Name) → allows (ledger_of calls) (try_call (ledger_of calls) function (map naming args) table)
+    ≡ ((is_open b && all_values b.func.now answers args) && (nat_lt function (length b.func.now.tables.functions) && tries b table))
+function-same {naming} calls b answers ready function table args = by (table_held exception_tables b table) refl
   where
-    by : (o : Option ExceptionShape) → table_held exception_tables b table ≡ o
-        → allows (ledger_of calls) (throwing_request naming (ledger_of calls) (throwing.TryCall function args table)) ≡ can_try b answers (throwing.TryCall function args table)
+    by : (o : Option ExceptionShape) → table_held exception_tables b table ≡ o → allows (ledger_of calls) (try_call (ledger_of calls) function (map naming args) table)
+        ≡ ((is_open b && all_values b.func.now answers args) && (nat_lt function (length b.func.now.tables.functions) && tries b table))
     by None found =
         let missing = exceptions-missing calls b answers ready table found in
-        let right = none-tried (is_open b) (all_values b.func.now answers args.items) (nat_lt function (length b.func.now.tables.functions)) (tries b table) (ap (tries_at b) found) in
+        let right = none-tried (is_open b) (all_values b.func.now answers args) (nat_lt function (length b.func.now.tables.functions)) (tries b table) (ap (tries_at b) found) in
         rw missing (sym right)
     by (Some made) found =
         let held = exceptions-held calls b answers ready table made found in
@@ -280,20 +286,24 @@ throwing-same {naming} calls b answers ready (throwing.TryCall function args tab
         let signature = held.2.signature in
         let named = contexts-there calls held.0.contexts (contexts_of made) held.2.contexts in
         let opens = open-same calls b answers ready in
-        let values = values-same calls b answers ready args.items in
+        let values = values-same calls b answers ready args in
         let edges = leads-same calls b answers ready held.0.edges made.edges held.2.edges in
         let tables = ready.stands.ledger.tables in
-        let right = ap (λ (test : Bool). (is_open b && all_values b.func.now answers args.items) && (nat_lt function (length b.func.now.tables.functions) && test)) (ap (tries_at b) found) in
+        let right = ap (λ (test : Bool). (is_open b && all_values b.func.now answers args) && (nat_lt function (length b.func.now.tables.functions) && test)) (ap (tries_at b) found) in
         rw (there, named, opens, values, edges, signature, tables)
         (function-in-order (nat_lt function (length b.func.now.tables.functions)) (nat_lt made.sig (length b.func.now.tables.signatures)) (is_open b)
-        (all_values b.func.now answers args.items) (list_all (λ edge. can_seal b edge.block) made.edges) ∙ sym right)
-throwing-same {naming} calls b answers ready (throwing.TryCallIndirect callee args table) = by (table_held exception_tables b table) refl
+        (all_values b.func.now answers args) (list_all (λ edge. can_seal b edge.block) made.edges) ∙ sym right)
+
+address-same : {naming : Naming} {declared : SignatureShape} (calls : List AnsweredCall) (b : FunctionBuilder) (answers : List Answer) → IsReady naming declared calls b answers
+    → (callee : Name) (table : ℕ) (args : List Name) → allows (ledger_of calls) (try_call_indirect (ledger_of calls) (naming callee) (map naming args) table)
+    ≡ ((is_open b && all_values b.func.now answers (callee ∷ args)) && (true && tries b table))
+address-same {naming} calls b answers ready callee table args = by (table_held exception_tables b table) refl
   where
-    by : (o : Option ExceptionShape) → table_held exception_tables b table ≡ o
-        → allows (ledger_of calls) (throwing_request naming (ledger_of calls) (throwing.TryCallIndirect callee args table)) ≡ can_try b answers (throwing.TryCallIndirect callee args table)
+    by : (o : Option ExceptionShape) → table_held exception_tables b table ≡ o → allows (ledger_of calls) (try_call_indirect (ledger_of calls) (naming callee) (map naming args) table)
+        ≡ ((is_open b && all_values b.func.now answers (callee ∷ args)) && (true && tries b table))
     by None found =
         let missing = exceptions-missing calls b answers ready table found in
-        let right = none-tried (is_open b) (all_values b.func.now answers (callee ∷ args.items)) true (tries b table) (ap (tries_at b) found) in
+        let right = none-tried (is_open b) (all_values b.func.now answers (callee ∷ args)) true (tries b table) (ap (tries_at b) found) in
         rw missing (sym right)
     by (Some made) found =
         let held = exceptions-held calls b answers ready table made found in
@@ -301,21 +311,28 @@ throwing-same {naming} calls b answers ready (throwing.TryCallIndirect callee ar
         let signature = held.2.signature in
         let named = contexts-there calls held.0.contexts (contexts_of made) held.2.contexts in
         let opens = open-same calls b answers ready in
-        let values = values-same calls b answers ready (callee ∷ args.items) in
+        let values = values-same calls b answers ready (callee ∷ args) in
         let edges = leads-same calls b answers ready held.0.edges made.edges held.2.edges in
         let tables = ready.stands.ledger.tables in
-        let right = ap (λ (test : Bool). (is_open b && all_values b.func.now answers (callee ∷ args.items)) && (true && test)) (ap (tries_at b) found) in
+        let right = ap (λ (test : Bool). (is_open b && all_values b.func.now answers (callee ∷ args)) && (true && test)) (ap (tries_at b) found) in
         rw (there, named, opens, values, edges, signature, tables)
-        (address-in-order (nat_lt made.sig (length b.func.now.tables.signatures)) (is_open b) (all_values b.func.now answers (callee ∷ args.items))
+        (address-in-order (nat_lt made.sig (length b.func.now.tables.signatures)) (is_open b) (all_values b.func.now answers (callee ∷ args))
         (list_all (λ edge. can_seal b edge.block) made.edges) ∙ sym right)
+
+pub throwing-same : {naming : Naming} {declared : SignatureShape} (calls : List AnsweredCall) (b : FunctionBuilder) (answers : List Answer) → IsReady naming declared calls b answers
+    → (called : ThrowingCall) → allows (ledger_of calls) (throwing_request (numbers_at b.func.now answers) naming (ledger_of calls) called) ≡ can_try b answers called
+throwing-same calls b answers ready (throwing.TryCall function args table) =
+    function-same calls b answers ready (numbers_at b.func.now answers Functions function) (numbers_at b.func.now answers ExceptionTables table) args.items
+throwing-same calls b answers ready (throwing.TryCallIndirect callee args table) =
+    address-same calls b answers ready callee (numbers_at b.func.now answers ExceptionTables table) args.items
 
 -- the parts of its condition
 pub can-open : (b : FunctionBuilder) (answers : List Answer) (called : ThrowingCall) → can_try b answers called ≡ true → is_open b ≡ true
 can-open b answers called may =
-    (and_parts (is_open b) _ (and_parts (is_open b && all_values b.func.now answers (tried_operands called)) (has_callee b.func.now called && tries b (table_of called)) may).0).0
+    (and_parts (is_open b) _ (and_parts (is_open b && all_values b.func.now answers (tried_operands called)) (has_callee b.func.now answers called && tries b (table_in b.func.now answers called)) may).0).0
 
-can-serve : (b : FunctionBuilder) (answers : List Answer) (called : ThrowingCall) → can_try b answers called ≡ true → (has_callee b.func.now called && tries b (table_of called)) ≡ true
-can-serve b answers called may = (and_parts (is_open b && all_values b.func.now answers (tried_operands called)) (has_callee b.func.now called && tries b (table_of called)) may).1
+can-serve : (b : FunctionBuilder) (answers : List Answer) (called : ThrowingCall) → can_try b answers called ≡ true → (has_callee b.func.now answers called && tries b (table_in b.func.now answers called)) ≡ true
+can-serve b answers called may = (and_parts (is_open b && all_values b.func.now answers (tried_operands called)) (has_callee b.func.now answers called && tries b (table_in b.func.now answers called)) may).1
 
 -- what a list passes as values exists as values
 values-exist : (f : Body) (values : List ℕ) → All (PassedExists f) (map arg.Value values) → All (ValueExists f) values
@@ -325,16 +342,16 @@ values-exist f (value ∷ values) all (suc k) d below = values-exist f values (�
 
 -- its table may serve
 pub trying : {naming : Naming} {declared : SignatureShape} (calls : List AnsweredCall) (b : FunctionBuilder) (answers : List Answer) → IsReady naming declared calls b answers
-    → (called : ThrowingCall) → can_try b answers called ≡ true → MayServeTry b (table_of called)
-trying calls b answers ready called may = by (table_held exception_tables b (table_of called)) refl
+    → (called : ThrowingCall) → can_try b answers called ≡ true → MayServeTry b (table_in b.func.now answers called)
+trying calls b answers ready called may = by (table_held exception_tables b (table_in b.func.now answers called)) refl
   where
-    serves : tries b (table_of called) ≡ true
-    serves = (and_parts (has_callee b.func.now called) (tries b (table_of called)) (can-serve b answers called may)).1
+    serves : tries b (table_in b.func.now answers called) ≡ true
+    serves = (and_parts (has_callee b.func.now answers called) (tries b (table_in b.func.now answers called)) (can-serve b answers called may)).1
 
-    by : (o : Option ExceptionShape) → table_held exception_tables b (table_of called) ≡ o → MayServeTry b (table_of called)
+    by : (o : Option ExceptionShape) → table_held exception_tables b (table_in b.func.now answers called) ≡ o → MayServeTry b (table_in b.func.now answers called)
     by None found = let no_way : false ≡ true = sym (ap (tries_at b) found) ∙ serves in let impossible : ⊥ = cc in absurd impossible
     by (Some made) found =
-        let held = exceptions-held calls b answers ready (table_of called) made found in
+        let held = exceptions-held calls b answers ready (table_in b.func.now answers called) made found in
         let both = and_parts (list_all (λ edge. can_seal b edge.block) made.edges) (nat_lt made.sig (length b.func.now.tables.signatures)) (sym (ap (tries_at b) found) ∙ serves) in (
           made,
           found,
@@ -346,30 +363,31 @@ trying calls b answers ready called may = by (table_held exception_tables b (tab
         )
 
 -- its shape
-pub throwing-operands : (called : ThrowingCall) (values : List ℕ) (held : ExceptionShape) → operands (throwing_shape called values held) ≡ values
-throwing-operands (throwing.TryCall function args table) values held = refl
-throwing-operands (throwing.TryCallIndirect callee args table) values held = refl
+pub throwing-operands : (numbers : Numbers) (called : ThrowingCall) (values : List ℕ) (held : ExceptionShape) → operands (throwing_shape numbers called values held) ≡ values
+throwing-operands numbers (throwing.TryCall function args table) values held = refl
+throwing-operands numbers (throwing.TryCallIndirect callee args table) values held = refl
 
-pub throwing-contexts : (called : ThrowingCall) (values : List ℕ) (held : ExceptionShape) → contexts (throwing_shape called values held) ≡ contexts_of held
-throwing-contexts (throwing.TryCall function args table) values held = refl
-throwing-contexts (throwing.TryCallIndirect callee args table) values held = refl
+pub throwing-contexts : (numbers : Numbers) (called : ThrowingCall) (values : List ℕ) (held : ExceptionShape) → contexts (throwing_shape numbers called values held) ≡ contexts_of held
+throwing-contexts numbers (throwing.TryCall function args table) values held = refl
+throwing-contexts numbers (throwing.TryCallIndirect callee args table) values held = refl
 
-pub throwing-edges : (called : ThrowingCall) (values : List ℕ) (held : ExceptionShape) → destinations (throwing_shape called values held) ≡ held.edges
-throwing-edges (throwing.TryCall function args table) values held = refl
-throwing-edges (throwing.TryCallIndirect callee args table) values held = refl
+pub throwing-edges : (numbers : Numbers) (called : ThrowingCall) (values : List ℕ) (held : ExceptionShape) → destinations (throwing_shape numbers called values held) ≡ held.edges
+throwing-edges numbers (throwing.TryCall function args table) values held = refl
+throwing-edges numbers (throwing.TryCallIndirect callee args table) values held = refl
 
-pub throwing-count : (tables : TableLists) (called : ThrowingCall) (values : List ℕ) (held : ExceptionShape) → count_of_results tables (throwing_shape called values held) ≤ 1
-throwing-count tables (throwing.TryCall function args table) values held = omega arith
-throwing-count tables (throwing.TryCallIndirect callee args table) values held = omega arith
+pub throwing-count : (tables : TableLists) (numbers : Numbers) (called : ThrowingCall) (values : List ℕ) (held : ExceptionShape) → count_of_results tables (throwing_shape numbers called values held) ≤ 1
+throwing-count tables numbers (throwing.TryCall function args table) values held = omega arith
+throwing-count tables numbers (throwing.TryCallIndirect callee args table) values held = omega arith
 
 -- what it names exists behind the taking
 pub throwing-entries : (old between : FunctionBuilder) (answers : List Answer) (called : ThrowingCall) (values : List ℕ) (held : ExceptionShape) → can_try old answers called ≡ true
-    → TakesExceptionTable old between (table_of called) (Ok held) → held.sig < length between.func.now.tables.signatures
-    → All (EntryExists between.func.now.tables) (entries_of (throwing_shape called values held))
+    → TakesExceptionTable old between (table_in old.func.now answers called) (Ok held) → held.sig < length between.func.now.tables.signatures
+    → All (EntryExists between.func.now.tables) (entries_of (throwing_shape (numbers_at old.func.now answers) called values held))
 throwing-entries old between answers (throwing.TryCall function args table) values held may takes signature =
-    let imported = (and_parts (nat_lt function (length old.func.now.tables.functions)) (tries old table) (can-serve old answers (throwing.TryCall function args table) may)).0 in
-    All-cons (EntryExists between.func.now.tables) (AFunctionRef function) (ASignatureRef held.sig ∷ [])
-    (takes.sets.grows.6 (AFunctionRef function) (ltb-true function (length old.func.now.tables.functions) imported))
+    let number : ℕ = numbers_at old.func.now answers Functions function in
+    let imported = (and_parts (nat_lt number (length old.func.now.tables.functions)) (tries old (numbers_at old.func.now answers ExceptionTables table)) (can-serve old answers (throwing.TryCall function args table) may)).0 in
+    All-cons (EntryExists between.func.now.tables) (AFunctionRef number) (ASignatureRef held.sig ∷ [])
+    (takes.sets.grows.6 (AFunctionRef number) (ltb-true number (length old.func.now.tables.functions) imported))
     (All-cons (EntryExists between.func.now.tables) (ASignatureRef held.sig) [] signature (All-nil (EntryExists between.func.now.tables)))
 throwing-entries old between answers (throwing.TryCallIndirect callee args table) values held may takes signature =
     All-cons (EntryExists between.func.now.tables) (ASignatureRef held.sig) [] signature (All-nil (EntryExists between.func.now.tables))
@@ -377,9 +395,9 @@ throwing-entries old between answers (throwing.TryCallIndirect callee args table
 pub throwing-exist : {naming : Naming} {declared : SignatureShape} (calls : List AnsweredCall) (old between : FunctionBuilder) (answers : List Answer) → IsReady naming declared calls old answers
     → (called : ThrowingCall) (values : List ℕ) (held : ExceptionShape) → map (value_of old.func.now answers) (tried_operands called) ≡ map Some values
     → length old.func.now.values ≤ length between.func.now.values
-    → (k : ℕ) → k < length (operands (throwing_shape called values held)) → slice_index (operands (throwing_shape called values held)) k < length between.func.now.values
+    → (k : ℕ) → k < length (operands (throwing_shape (numbers_at old.func.now answers) called values held)) → slice_index (operands (throwing_shape (numbers_at old.func.now answers) called values held)) k < length between.func.now.values
 throwing-exist calls old between answers ready called values held found grows =
-    subst (λ (xs : List ℕ). (k : ℕ) → k < length xs → slice_index xs k < length between.func.now.values) (sym (throwing-operands called values held))
+    subst (λ (xs : List ℕ). (k : ℕ) → k < length xs → slice_index xs k < length between.func.now.values) (sym (throwing-operands (numbers_at old.func.now answers) called values held))
     (λ k inside. let below : slice_index values k < length old.func.now.values = all-exist calls old answers ready (tried_operands called) values found k inside in omega (arith, below, grows))
 
 -- a taking finds no full table, and what is built behind it fails as the builder did before
@@ -395,54 +413,54 @@ not-failed told old between sound still tells = (
 
 -- it asks for its shape, in any builder that stands for the calls
 throwing-asked : RequestsAskForTheirShapes → {naming : Naming} {declared : SignatureShape} (calls : List AnsweredCall) (old between : FunctionBuilder) (answers : List Answer) → IsReady naming declared calls old answers
-    → StandsFor declared calls between → (called : ThrowingCall) (values : List ℕ) (made : ExceptionShape) → map (value_of old.func.now answers) (tried_operands called) ≡ map Some values
-    → table_held exception_tables old (table_of called) ≡ Some made
-    → AsksForShape calls between.func.now (throwing_request naming (ledger_of calls) called) (throwing_shape called values made) Invalid
-throwing-asked shapes {naming} calls old between answers ready stands (throwing.TryCall function args table) values made found at =
-    let held = exceptions-held calls old answers ready table made at in
-    (shapes calls between.func.now between.ctx.now between.position stands.ledger).try_call function table (map naming args.items) values held.0 made
+    → StandsFor declared calls between → (numbers : Numbers) (called : ThrowingCall) (values : List ℕ) (made : ExceptionShape) → map (value_of old.func.now answers) (tried_operands called) ≡ map Some values
+    → table_held exception_tables old (numbers ExceptionTables (table_of called)) ≡ Some made
+    → AsksForShape calls between.func.now (throwing_request numbers naming (ledger_of calls) called) (throwing_shape numbers called values made) Invalid
+throwing-asked shapes {naming} calls old between answers ready stands numbers (throwing.TryCall function args table) values made found at =
+    let held = exceptions-held calls old answers ready (numbers ExceptionTables table) made at in
+    (shapes calls between.func.now between.ctx.now between.position stands.ledger).try_call (numbers Functions function) (numbers ExceptionTables table) (map naming args.items) values held.0 made
     (all-named calls old answers ready args.items values found) held.1 held.2
-throwing-asked shapes {naming} calls old between answers ready stands (throwing.TryCallIndirect callee args table) [] made found at = let no_way : ⊥ = cc in absurd no_way
-throwing-asked shapes {naming} calls old between answers ready stands (throwing.TryCallIndirect callee args table) (address ∷ values) made found at =
+throwing-asked shapes {naming} calls old between answers ready stands numbers (throwing.TryCallIndirect callee args table) [] made found at = let no_way : ⊥ = cc in absurd no_way
+throwing-asked shapes {naming} calls old between answers ready stands numbers (throwing.TryCallIndirect callee args table) (address ∷ values) made found at =
     let here : value_of old.func.now answers callee ≡ Some address = cc in
     let rest : map (value_of old.func.now answers) args.items ≡ map Some values = cc in
-    let held = exceptions-held calls old answers ready table made at in
-    (shapes calls between.func.now between.ctx.now between.position stands.ledger).try_call_indirect table (naming callee) address (map naming args.items) values held.0 made
+    let held = exceptions-held calls old answers ready (numbers ExceptionTables table) made at in
+    (shapes calls between.func.now between.ctx.now between.position stands.ledger).try_call_indirect (numbers ExceptionTables table) (naming callee) address (map naming args.items) values held.0 made
     (value-found calls old answers ready callee address here) (all-named calls old answers ready args.items values rest) held.1 held.2
 
-is-answered : (naming : Naming) (ledger : Ledger) (called : ThrowingCall) (inst : ℕ) (results : List ℕ) → AnswerIs (answer.Inst inst) (answers_to ledger (throwing_request naming ledger called)) (inst ∷ results)
-is-answered naming ledger (throwing.TryCall function args table) inst results = ([], results, refl, refl)
-is-answered naming ledger (throwing.TryCallIndirect callee args table) inst results = ([], results, refl, refl)
+is-answered : (numbers : Numbers) (naming : Naming) (ledger : Ledger) (called : ThrowingCall) (inst : ℕ) (results : List ℕ) → AnswerIs (answer.Inst inst) (answers_to ledger (throwing_request numbers naming ledger called)) (inst ∷ results)
+is-answered numbers naming ledger (throwing.TryCall function args table) inst results = ([], results, refl, refl)
+is-answered numbers naming ledger (throwing.TryCallIndirect callee args table) inst results = ([], results, refl, refl)
 
-jumps-left : (naming : Naming) (ledger : Ledger) (called : ThrowingCall) → (ledger_with ledger (throwing_request naming ledger called)).jump_tables ≡ ledger.jump_tables
-jumps-left naming ledger (throwing.TryCall function args table) = refl
-jumps-left naming ledger (throwing.TryCallIndirect callee args table) = refl
+jumps-left : (numbers : Numbers) (naming : Naming) (ledger : Ledger) (called : ThrowingCall) → (ledger_with ledger (throwing_request numbers naming ledger called)).jump_tables ≡ ledger.jump_tables
+jumps-left numbers naming ledger (throwing.TryCall function args table) = refl
+jumps-left numbers naming ledger (throwing.TryCallIndirect callee args table) = refl
 
-one-taken : (naming : Naming) (ledger : Ledger) (called : ThrowingCall) → (ledger_with ledger (throwing_request naming ledger called)).exception_tables ≡ slice_set ledger.exception_tables (table_of called) None
-one-taken naming ledger (throwing.TryCall function args table) = refl
-one-taken naming ledger (throwing.TryCallIndirect callee args table) = refl
+one-taken : (numbers : Numbers) (naming : Naming) (ledger : Ledger) (called : ThrowingCall) → (ledger_with ledger (throwing_request numbers naming ledger called)).exception_tables ≡ slice_set ledger.exception_tables (numbers ExceptionTables (table_of called)) None
+one-taken numbers naming ledger (throwing.TryCall function args table) = refl
+one-taken numbers naming ledger (throwing.TryCallIndirect callee args table) = refl
 
 -- it was made
 pub throwing-ready : RequestsAskForTheirShapes → {naming : Naming} {declared : SignatureShape} (calls : List AnsweredCall) (old between new : FunctionBuilder) (answers : List Answer) (called : ThrowingCall)
     (values : List ℕ) (made : ExceptionShape) (inst : ℕ) → IsReady naming declared calls old answers → map (value_of old.func.now answers) (tried_operands called) ≡ map Some values
-    → TakesExceptionTable old between (table_of called) (Ok made) → Builds between new (throwing_shape called values made) Invalid (Ok inst)
-    → IsReadyAfter naming declared calls (throwing_request naming (ledger_of calls) called) new answers (answer.Inst inst)
+    → TakesExceptionTable old between (table_in old.func.now answers called) (Ok made) → Builds between new (throwing_shape (numbers_at old.func.now answers) called values made) Invalid (Ok inst)
+    → IsReadyAfter naming declared calls (throwing_request (numbers_at old.func.now answers) naming (ledger_of calls) called) new answers (answer.Inst inst)
 throwing-ready shapes {naming} {declared} calls old between new answers called values made inst ready found takes builds = (
   numbers_of new inst,
-  ready-answered calls call old new answers (answer.Inst inst) ready stands (is-answered naming (ledger_of calls) called inst (inst_at new.func.now inst).results)
+  ready-answered calls call old new answers (answer.Inst inst) ready stands (is-answered (numbers_at old.func.now answers) naming (ledger_of calls) called inst (inst_at new.func.now inst).results)
       (λ edge same. let no_way : ⊥ = cc in absurd no_way)
-      (tables-still calls call old new answers ready stands (jumps-left naming (ledger_of calls) called) (builds.grows.6 ∙ ap (λ (f : Body). f.tables.jump_tables) takes.sets.function)) exceptions,
+      (tables-still calls call old new answers ready stands (jumps-left (numbers_at old.func.now answers) naming (ledger_of calls) called) (builds.grows.6 ∙ ap (λ (f : Body). f.tables.jump_tables) takes.sets.function)) exceptions,
 )
   where
     call : AnsweredCall
-    call = record { request = throwing_request naming (ledger_of calls) called; numbers = numbers_of new inst }
+    call = record { request = throwing_request (numbers_at old.func.now answers) naming (ledger_of calls) called; numbers = numbers_of new inst }
 
     taken : StandsFor declared calls between
     taken = takes.sets.stands declared calls ready.stands
 
     stands : StandsFor declared (calls ++ call ∷ []) new
     stands =
-        let asked = throwing-asked shapes calls old between answers ready taken called values made found takes.held in
+        let asked = throwing-asked shapes calls old between answers ready taken (numbers_at old.func.now answers) called values made found takes.held in
         subst (λ (r : Request). StandsFor declared (calls ++ record { request = r; numbers = numbers_of new inst } ∷ []) new) (sym asked.2)
         (builds.stands declared calls asked.0 asked.1 taken asked.3)
 
@@ -450,7 +468,7 @@ throwing-ready shapes {naming} {declared} calls old between new answers called v
     exceptions =
         subst (TablesAgree (NamesExceptions (calls ++ call ∷ [])) (ledger_of (calls ++ call ∷ [])).exception_tables)
         (sym (builds.grows.8 ∙ ap (λ (f : Body). f.tables.exception_tables) takes.sets.function))
-        (subst (λ (lists : List (Option ExceptionTable)). TablesAgree (NamesExceptions (calls ++ call ∷ [])) lists (slice_set old.func.now.tables.exception_tables (table_of called) None))
-        (sym (ap (λ (l : Ledger). l.exception_tables) (ledger-more calls call) ∙ one-taken naming (ledger_of calls) called))
-        (table-serves (NamesExceptions (calls ++ call ∷ [])) (ledger_of calls).exception_tables old.func.now.tables.exception_tables (table_of called)
+        (subst (λ (lists : List (Option ExceptionTable)). TablesAgree (NamesExceptions (calls ++ call ∷ [])) lists (slice_set old.func.now.tables.exception_tables (table_in old.func.now answers called) None))
+        (sym (ap (λ (l : Ledger). l.exception_tables) (ledger-more calls call) ∙ one-taken (numbers_at old.func.now answers) naming (ledger_of calls) called))
+        (table-serves (NamesExceptions (calls ++ call ∷ [])) (ledger_of calls).exception_tables old.func.now.tables.exception_tables (table_in old.func.now answers called)
         (exceptions-stay ready.reads calls (call ∷ []) old new ready.stands stands (ledger_of calls).exception_tables old.func.now.tables.exception_tables ready.exceptions)))

@@ -1,7 +1,7 @@
 -- The verdict on a list of calls, call by call.
 use Rattle.std.proofs.Common.{◌≡◌, ℕ, suc, ◌+◌, ◌<◌, List, [], ◌∷◌, ◌++◌, length, get_or, take, drop, refl, ap, arith, sym, ◌∙◌, subst, inl, inr}
 use Rattle.std.specs.List.{AllByRecursion}
-use Rattle.std.specs.Prelude.{fold, Option, Some, None, is_some, Bool, true, false, not, ◌&&◌, if◌then◌else◌, Result, Ok, Err}
+use Rattle.std.specs.Prelude.{◌≢◌, ◌⊎◌, fold, Option, Some, None, is_some, Bool, true, false, not, ◌&&◌, if◌then◌else◌, Result, Ok, Err}
 use Rattle.std.proofs.lemmas.List.{take_more, drop_more, drop_all, take_all}
 use Rattle.clif_types.specs.Signature.{SignatureShape}
 use Rattle.clif_types.specs.declared.target.TargetFrontendConfig.{TargetFrontendConfig}
@@ -14,7 +14,8 @@ use Rattle.clif_meaning.specs.Acceptance.{Accepted, Misuse, Refusal, Refused, re
 use Rattle.clif_meaning.specs.Acceptance as refusal
 use Rattle.clif_builder.specs.declared.error.FinalizeError.{FinalizeError}
 use Rattle.clif_builder.specs.declared.error.FinalizeError.TheVariants as ending
-use Rattle.clif_builder.specs.Ledger.{RefusalAgrees}
+use Rattle.clif_safepoints.specs.Contexts.{IsFirstTracked}
+use Rattle.clif_builder.specs.Ending.{EndsByLedger, TellsContext}
 use Rattle.clif_builder.specs.Ledger.{ledger_of as plain_ledger_of}
 use Rattle.clif_calls.specs.declared.call.Call.{Call}
 use Rattle.clif_calls.specs.declared.call.Call.TheVariants as call
@@ -233,36 +234,50 @@ verdict-end config declared calls answered replayed =
     (verdicts_are_read.refused replayed.plain.reading (plain_ledger_of answered) ledger Finalize Finalize
     (joined_calls replayed.plain.reading (script_of answered) (calls_before config declared calls (length calls)) replayed.plain.joined) tt)
 
--- `finalize` is refused where the script is
-pub verdict-refused : (config : TargetFrontendConfig) (declared : SignatureShape) (calls : List Call) (made : List AnsweredCall) (r : Result (Unit {0}) FinalizeError) (e : FinalizeError) → IsReplayed config declared calls (length calls) made
-    → RefusalAgrees made (refusal_of (plain_ledger_of made) Finalize) r → r ≡ Err e → verdict_on_call_attempts (attempts_of config declared calls) ≡ Refused (length calls)
-verdict-refused config declared calls made r e replayed agrees is =
-    verdict-end config declared calls made replayed ∙ by (refusal_of (plain_ledger_of made) Finalize) agrees
+-- `finalize` is refused where the script is, or for a context that is recorded
+pub verdict-refused : (config : TargetFrontendConfig) (declared : SignatureShape) (calls : List Call) (made : List AnsweredCall) (f : Body) (recorded : List ℕ) (r : Result (Unit {0}) FinalizeError) (e : FinalizeError)
+    → IsReplayed config declared calls (length calls) made → EndsByLedger made (refusal_of (plain_ledger_of made) Finalize) f recorded r → r ≡ Err e → e ≢ ending.Memory → e ≢ ending.Full
+    → (verdict_on_call_attempts (attempts_of config declared calls) ≡ Refused (length calls))
+    ⊎ ((verdict_on_call_attempts (attempts_of config declared calls) ≡ Accepted) × ((inst : ℕ) × IsFirstTracked f recorded (Some inst)))
+verdict-refused config declared calls made f recorded r e replayed ends is not_memory not_full =
+    by (refusal_of (plain_ledger_of made) Finalize) ends (verdict-end config declared calls made replayed)
   where
-    by : (o : Option Refusal) → RefusalAgrees made o r → (if is_some o then Refused (length calls) else Accepted) ≡ Refused (length calls)
-    by None agrees = let no_way : ⊥ = cc in absurd no_way
-    by (Some refusal) agrees = refl
+    context : (error : FinalizeError) → e ≡ error → TellsContext f recorded (Err error) → (inst : ℕ) × IsFirstTracked f recorded (Some inst)
+    context (ending.TrackedContext inst) at tells = (inst, tells)
+    context ending.Memory at tells = absurd (not_memory at)
+    context ending.Full at tells = absurd (not_full at)
+    context ending.Failed at tells = absurd tells
+    context (ending.Unsealed block) at tells = absurd tells
+    context (ending.Unfilled block) at tells = absurd tells
 
--- and it succeeds where the script is accepted
-pub verdict-accepted : (config : TargetFrontendConfig) (declared : SignatureShape) (calls : List Call) (made : List AnsweredCall) (r : Result (Unit {0}) FinalizeError) → IsReplayed config declared calls (length calls) made
-    → RefusalAgrees made (refusal_of (plain_ledger_of made) Finalize) r → r ≡ Ok tt → verdict_on_call_attempts (attempts_of config declared calls) ≡ Accepted
-verdict-accepted config declared calls made r replayed agrees is =
-    verdict-end config declared calls made replayed ∙ by (refusal_of (plain_ledger_of made) Finalize) agrees
+    by : (o : Option Refusal) → EndsByLedger made o f recorded r → verdict_on_call_attempts (attempts_of config declared calls) ≡ (if is_some o then Refused (length calls) else Accepted)
+        → (verdict_on_call_attempts (attempts_of config declared calls) ≡ Refused (length calls))
+        ⊎ ((verdict_on_call_attempts (attempts_of config declared calls) ≡ Accepted) × ((inst : ℕ) × IsFirstTracked f recorded (Some inst)))
+    by None tells verdict = inr (verdict, context e refl (subst (TellsContext f recorded) is tells))
+    by (Some refusal) agrees verdict = inl verdict
+
+-- and it succeeds where the script is accepted, and no context is recorded
+pub verdict-accepted : (config : TargetFrontendConfig) (declared : SignatureShape) (calls : List Call) (made : List AnsweredCall) (f : Body) (recorded : List ℕ) (r : Result (Unit {0}) FinalizeError)
+    → IsReplayed config declared calls (length calls) made → EndsByLedger made (refusal_of (plain_ledger_of made) Finalize) f recorded r → r ≡ Ok tt
+    → (verdict_on_call_attempts (attempts_of config declared calls) ≡ Accepted) × IsFirstTracked f recorded None
+verdict-accepted config declared calls made f recorded r replayed ends is =
+    by (refusal_of (plain_ledger_of made) Finalize) ends (verdict-end config declared calls made replayed)
   where
-    by : (o : Option Refusal) → RefusalAgrees made o r → (if is_some o then Refused (length calls) else Accepted) ≡ Accepted
-    by None agrees = refl
+    by : (o : Option Refusal) → EndsByLedger made o f recorded r → verdict_on_call_attempts (attempts_of config declared calls) ≡ (if is_some o then Refused (length calls) else Accepted)
+        → (verdict_on_call_attempts (attempts_of config declared calls) ≡ Accepted) × IsFirstTracked f recorded None
+    by None tells verdict = (verdict, subst (TellsContext f recorded) is tells)
+    by (Some (refusal.Unsealed name)) (block, number, found) verdict = let no_way : ⊥ = cc in absurd no_way
+    by (Some (refusal.Unfilled name)) (block, number, found) verdict = let no_way : ⊥ = cc in absurd no_way
+
+-- `finalize` answers a full table only where something is recorded
+pub full-spilling : (made : List AnsweredCall) (f : Body) (recorded : List ℕ) (r : Result (Unit {0}) FinalizeError) → EndsByLedger made (refusal_of (plain_ledger_of made) Finalize) f recorded r
+    → r ≡ Err ending.Full → recorded ≢ []
+full-spilling made f recorded r ends is = by (refusal_of (plain_ledger_of made) Finalize) ends
+  where
+    by : (o : Option Refusal) → EndsByLedger made o f recorded r → recorded ≢ []
+    by None tells = subst (TellsContext f recorded) is tells
     by (Some (refusal.Unsealed name)) (block, number, found) = let no_way : ⊥ = cc in absurd no_way
     by (Some (refusal.Unfilled name)) (block, number, found) = let no_way : ⊥ = cc in absurd no_way
-
--- `finalize` answers no full table, where the builder didn't fail
-pub never-full : (made : List AnsweredCall) (r : Result (Unit {0}) FinalizeError) (e : FinalizeError) → RefusalAgrees made (refusal_of (plain_ledger_of made) Finalize) r
-    → r ≡ Err e → e ≡ ending.Full → ⊥
-never-full made r e agrees is full = by (refusal_of (plain_ledger_of made) Finalize) agrees
-  where
-    by : (o : Option Refusal) → RefusalAgrees made o r → ⊥
-    by None ok = cc
-    by (Some (refusal.Unsealed name)) (block, number, found) = cc
-    by (Some (refusal.Unfilled name)) (block, number, found) = cc
 
 -- only the error of a full table tells one
 pub full-told : (refusal : CallError) (place : ℕ) (told : ReplayError) → told ≡ replay_error_at refusal place → told ≡ replay.Full → refusal ≡ error.Full

@@ -1,6 +1,8 @@
--- How the refusal of a call is told as that of a script. Source: own.
+-- How the refusal of a call, or of `finalize`, is told as that of a script. Source: own.
 use Rattle.std.specs.Prelude.{ℕ, List, ◌++◌, codes}
 use Rattle.std.specs.Fmt.{decimal}
+use Rattle.clif_builder.specs.declared.error.FinalizeError.{FinalizeError}
+use Rattle.clif_builder.specs.declared.error.FinalizeError.TheVariants as ending
 use Rattle.clif_resolution.specs.declared.answers.CallError.{CallError}
 use Rattle.clif_resolution.specs.declared.answers.CallError.TheVariants as call
 use Rattle.clif_replay.specs.declared.script.ReplayError.{ReplayError}
@@ -15,6 +17,12 @@ replay_error_at call.Misuse place = replay.Misuse place
 replay_error_at call.Refused place = replay.Refused place
 replay_error_at call.Memory place = replay.Memory
 replay_error_at call.Full place = replay.Full
+
+-- what `finalize` refuses after so many calls
+abbrev pub end_error_at : FinalizeError → ℕ → ReplayError
+end_error_at ending.Memory place = replay.Memory
+end_error_at ending.Full place = replay.Full
+end_error_at _ place = replay.Refused place
 
 -- what a refusal prints
 abbrev pub replay_error_text : ReplayError → List ℕ

@@ -2,7 +2,6 @@
 use Rattle.std.specs.Prelude.{◌≡◌, ◌<◌, ◌+◌, ◌-◌, ◌^◌, ◌⊎◌, ℕ, List, false, length, slice_get, Some}
 use Rattle.clif_tables.specs.Callees.{function_at, signature_at}
 use Rattle.clif_tables.specs.Constants.{has_constant}
-use Rattle.clif_tables.specs.Entries.{count_for}
 use Rattle.clif_tables.specs.Lists.{TableLists}
 use Rattle.clif_ir.specs.Body.{Body}
 use Rattle.clif_ssa.specs.Constructs.{OnlyConstructs}
@@ -20,7 +19,8 @@ use Rattle.clif_calls.specs.declared.call.Call.{Call}
 use Rattle.clif_calls.specs.declared.call.Call.TheVariants as call
 use Rattle.clif_builder.specs.Context.{ContextState}
 use Rattle.clif_builder.specs.Growth.{NoRoomFor}
-use Rattle.clif_replay.specs.Entries.{entry_in}
+use Rattle.clif_resolution.specs.Entries.{Functions, Numbers, Signatures}
+use Rattle.clif_replay.specs.Entries.{count_with}
 
 -- the construction of SSA form alone leads from this function to one in which a table is full
 abbrev pub ConstructsUntil : (Body → Type 0) → Body → Type 0
@@ -52,50 +52,52 @@ ConstantMeetsFullTable bytes f =
     ((has_constant f.tables.constants bytes ≡ false) × (length f.tables.constants ≡ 2 ^ 32 - 1)) ⊎ IsFull f
 
 -- what an outside call gives, by the signature of what it calls
-abbrev pub returns_in : TableLists → OutsideCall → List AbiParam
-returns_in tables (outside.Call function args) = (signature_at tables (function_at tables function).signature).returns
-returns_in tables (outside.CallIndirect signature callee args) = (signature_at tables signature).returns
+abbrev pub returns_in : Numbers → TableLists → OutsideCall → List AbiParam
+returns_in numbers tables (outside.Call function args) = (signature_at tables (function_at tables (numbers Functions function)).signature).returns
+returns_in numbers tables (outside.CallIndirect signature callee args) = (signature_at tables (numbers Signatures signature)).returns
 
--- A call, made so far as it is made, meets a table that holds 2^32 - 1 entries: a call that lengthens a table finds it full,
+-- A call with these numbers of entries, made so far as it is made, meets a table that holds 2^32 - 1 entries: a call that lengthens a table finds it full,
 -- an outside call doesn't find room for all that it gives, one with a constant as an operand finds them full at one of its
 -- instructions, one that makes several parameters fills the table of values before it has made them all, and a use of a variable and a
 -- sealing construct until a table is full. Of a switch and of a memory helper nothing is said: they make many entries. No other
 -- call lengthens a table.
-abbrev pub MeetsFullTable : Call → Body → ContextState → Type 0
-MeetsFullTable call.CreateBlock f c = length f.blocks ≡ 2 ^ 32 - 1
-MeetsFullTable (call.Entry entry) f c = count_for f.tables (entry_in entry) ≡ 2 ^ 32 - 1
-MeetsFullTable (call.CreateJumpTable default entries) f c = length f.tables.jump_tables ≡ 2 ^ 32 - 1
-MeetsFullTable (call.CreateExceptionTable signature normal items) f c = length f.tables.exception_tables ≡ 2 ^ 32 - 1
-MeetsFullTable (call.DeclareVar ty) f c = length c.variables ≡ 2 ^ 32 - 1
-MeetsFullTable (call.AppendBlockParam block ty) f c = length f.values ≡ 2 ^ 32 - 1
-MeetsFullTable (call.AppendBlockParamsForFunctionParams block) f c = NoRoomFor f (length f.signature.params)
-MeetsFullTable (call.AppendBlockParamsForFunctionReturns block) f c = NoRoomFor f (length f.signature.returns)
-MeetsFullTable (call.Plain instruction) f c = PlanMeetsFullTable (plan_of instruction) f
-MeetsFullTable (call.Cursor instruction) f c = PlanMeetsFullTable (plan_of instruction) f
-MeetsFullTable (call.Outside called) f c = HasNoRoom f (length (returns_in f.tables called))
-MeetsFullTable (call.Immediate called) f c = EmissionMeetsFullTable f
-MeetsFullTable (call.Switch entries value otherwise) f c = Unit {0}
-MeetsFullTable (call.Memory called) f c = Unit {0}
-MeetsFullTable (call.F128const bytes) f c = ConstantMeetsFullTable bytes.items f
-MeetsFullTable (call.Vconst ty bytes) f c = ConstantMeetsFullTable bytes.items f
-MeetsFullTable (call.Jump destination) f c = IsFull f
-MeetsFullTable (call.Brif condition block_then block_else) f c = IsFull f
-MeetsFullTable (call.BrTable index table) f c = IsFull f
-MeetsFullTable (call.Throwing called) f c = IsFull f
-MeetsFullTable (call.Return values) f c = IsFull f
-MeetsFullTable (call.Trap code) f c = IsFull f
-MeetsFullTable (call.UseVar variable) f c = UseMeetsFullTable variable f c
-MeetsFullTable (call.TryUseVar variable) f c = UseMeetsFullTable variable f c
-MeetsFullTable (call.SealBlock block) f c = SealingMeetsFullTable f c
-MeetsFullTable call.SealAllBlocks f c = SealingMeetsFullTable f c
-MeetsFullTable (call.SwitchToBlock block) f c = ⊥
-MeetsFullTable (call.BlockCall edge) f c = ⊥
-MeetsFullTable (call.InsertBlockAfter block after) f c = ⊥
-MeetsFullTable (call.SetColdBlock block) f c = ⊥
-MeetsFullTable call.EnsureInsertedBlock f c = ⊥
-MeetsFullTable (call.SetSrcloc srcloc) f c = ⊥
-MeetsFullTable call.CollectDebugInfo f c = ⊥
-MeetsFullTable (call.SetValLabel value label) f c = ⊥
-MeetsFullTable (call.ChangeJumpDestination branch from to) f c = ⊥
-MeetsFullTable (call.DefVar variable value) f c = ⊥
-MeetsFullTable (call.TryDefVar variable value) f c = ⊥
+abbrev pub MeetsFullTable : Numbers → Call → Body → ContextState → Type 0
+MeetsFullTable numbers call.CreateBlock f c = length f.blocks ≡ 2 ^ 32 - 1
+MeetsFullTable numbers (call.Entry entry) f c = count_with f.tables entry ≡ 2 ^ 32 - 1
+MeetsFullTable numbers (call.CreateJumpTable default entries) f c = length f.tables.jump_tables ≡ 2 ^ 32 - 1
+MeetsFullTable numbers (call.CreateExceptionTable signature normal items) f c = length f.tables.exception_tables ≡ 2 ^ 32 - 1
+MeetsFullTable numbers (call.DeclareVar ty) f c = length c.variables ≡ 2 ^ 32 - 1
+MeetsFullTable numbers (call.AppendBlockParam block ty) f c = length f.values ≡ 2 ^ 32 - 1
+MeetsFullTable numbers (call.AppendBlockParamsForFunctionParams block) f c = NoRoomFor f (length f.signature.params)
+MeetsFullTable numbers (call.AppendBlockParamsForFunctionReturns block) f c = NoRoomFor f (length f.signature.returns)
+MeetsFullTable numbers (call.Plain instruction) f c = PlanMeetsFullTable (plan_of instruction) f
+MeetsFullTable numbers (call.Cursor instruction) f c = PlanMeetsFullTable (plan_of instruction) f
+MeetsFullTable numbers (call.Outside called) f c = HasNoRoom f (length (returns_in numbers f.tables called))
+MeetsFullTable numbers (call.Immediate called) f c = EmissionMeetsFullTable f
+MeetsFullTable numbers (call.Switch entries value otherwise) f c = Unit {0}
+MeetsFullTable numbers (call.Memory called) f c = Unit {0}
+MeetsFullTable numbers (call.F128const bytes) f c = ConstantMeetsFullTable bytes.items f
+MeetsFullTable numbers (call.Vconst ty bytes) f c = ConstantMeetsFullTable bytes.items f
+MeetsFullTable numbers (call.Jump destination) f c = IsFull f
+MeetsFullTable numbers (call.Brif condition block_then block_else) f c = IsFull f
+MeetsFullTable numbers (call.BrTable index table) f c = IsFull f
+MeetsFullTable numbers (call.Throwing called) f c = IsFull f
+MeetsFullTable numbers (call.Return values) f c = IsFull f
+MeetsFullTable numbers (call.Trap code) f c = IsFull f
+MeetsFullTable numbers (call.UseVar variable) f c = UseMeetsFullTable variable f c
+MeetsFullTable numbers (call.TryUseVar variable) f c = UseMeetsFullTable variable f c
+MeetsFullTable numbers (call.SealBlock block) f c = SealingMeetsFullTable f c
+MeetsFullTable numbers call.SealAllBlocks f c = SealingMeetsFullTable f c
+MeetsFullTable numbers (call.SwitchToBlock block) f c = ⊥
+MeetsFullTable numbers (call.DeclareVarNeedsStackMap variable) f c = ⊥
+MeetsFullTable numbers (call.DeclareValueNeedsStackMap value) f c = ⊥
+MeetsFullTable numbers (call.BlockCall edge) f c = ⊥
+MeetsFullTable numbers (call.InsertBlockAfter block after) f c = ⊥
+MeetsFullTable numbers (call.SetColdBlock block) f c = ⊥
+MeetsFullTable numbers call.EnsureInsertedBlock f c = ⊥
+MeetsFullTable numbers (call.SetSrcloc srcloc) f c = ⊥
+MeetsFullTable numbers call.CollectDebugInfo f c = ⊥
+MeetsFullTable numbers (call.SetValLabel value label) f c = ⊥
+MeetsFullTable numbers (call.ChangeJumpDestination branch from to) f c = ⊥
+MeetsFullTable numbers (call.DefVar variable value) f c = ⊥
+MeetsFullTable numbers (call.TryDefVar variable value) f c = ⊥

@@ -16,11 +16,17 @@ use Rattle.clif_calls.specs.declared.call.Call.{Call}
 use Rattle.clif_calls.specs.declared.call.Name.{Name}
 use Rattle.clif_calls.specs.declared.plan.Plan.{Plan}
 use Rattle.clif_resolution.specs.declared.answers.Answer.{Answer}
+use Rattle.clif_resolution.specs.declared.answers.Entry.{Entry}
+use Rattle.clif_types.specs.declared.error.BuildError.{BuildError}
+use Rattle.clif_tables.specs.Entries.{TableEntry}
+use Rattle.clif_builder.specs.Entries.{MakesEntry}
 use Rattle.clif_resolution.specs.declared.answers.CallError.{CallError}
 use Rattle.clif_resolution.specs.declared.answers.CallError.TheVariants as error
 use Rattle.clif_replay.specs.Limits.{ConstantMeetsFullTable, MeetsFullTable, PlanMeetsFullTable}
 use Rattle.clif_replay.specs.Ready.{IsJudged, IsReady, IsReadyAfter, types_after}
 use Rattle.clif_resolution.specs.Answers.{value_of}
+use Rattle.clif_resolution.specs.Entries.{Signatures, numbers_at}
+use Rattle.clif_replay.specs.Entries.{entry_made, numbers_in}
 use Rattle.clif_replay.specs.Requests.{Naming, is_tried, item_of, request_in, request_under}
 
 -- A call was made, which asked this under each naming, or wasn't. It is refused only if it is only tried. `Full` is told only
@@ -40,12 +46,12 @@ pub record Makes (asks : Naming → SignatureShape → Ledger → Request) (trie
 -- for this call
 abbrev pub MakesCall : Call → FunctionBuilder → FunctionBuilder → List Answer → Result Answer CallError → Type 0
 MakesCall call old new answers result =
-    Makes (λ naming declared ledger. request_under naming declared ledger call) (is_tried call) (MeetsFullTable call old.func.now old.ctx.now) (types_after call old.ctx.now.variables) old new answers result
+    Makes (λ naming declared ledger. request_under naming declared ledger call) (is_tried call) (MeetsFullTable (numbers_at old.func.now answers) call old.func.now old.ctx.now) (types_after call old.ctx.now.variables) old new answers result
 
 -- for an instruction of this plan
 abbrev pub MakesPlan : Plan → FunctionBuilder → FunctionBuilder → List Answer → Result Answer CallError → Type 0
 MakesPlan plan old new answers result =
-    Makes (λ naming declared ledger. request_in naming ledger plan) false (PlanMeetsFullTable plan old.func.now) old.ctx.now.variables old new answers result
+    Makes (λ naming declared ledger. request_in (numbers_in naming ledger) naming ledger plan) false (PlanMeetsFullTable plan old.func.now) old.ctx.now.variables old new answers result
 
 -- for an instruction of a pooled constant
 abbrev pub MakesConstant : PooledConstOpcode → «Type» → List ℕ → FunctionBuilder → FunctionBuilder → List Answer → Result Answer CallError → Type 0
@@ -53,9 +59,9 @@ MakesConstant opcode ty bytes old new answers result =
     Makes (λ naming declared ledger. pooled_const opcode ty bytes) false (ConstantMeetsFullTable bytes old.func.now) old.ctx.now.variables old new answers result
 
 -- for an exception table of this signature, normal edge and items
-abbrev pub MakesExceptions : ℕ → Name → List TableItem → FunctionBuilder → FunctionBuilder → List Answer → Result Answer CallError → Type 0
+abbrev pub MakesExceptions : Name → Name → List TableItem → FunctionBuilder → FunctionBuilder → List Answer → Result Answer CallError → Type 0
 MakesExceptions signature normal items old new answers result =
-    Makes (λ naming declared ledger. MakeExceptionTable signature (naming normal) (map (item_of naming) items)) false (length old.func.now.tables.exception_tables ≡ 2 ^ 32 - 1)
+    Makes (λ naming declared ledger. MakeExceptionTable (numbers_in naming ledger Signatures signature) (naming normal) (map (item_of naming) items)) false (length old.func.now.tables.exception_tables ≡ 2 ^ 32 - 1)
     old.ctx.now.variables old new answers result
 
 -- for a jump table of the edges with these names
@@ -63,6 +69,10 @@ abbrev pub MakesTable : Name → List Name → FunctionBuilder → FunctionBuild
 MakesTable default entries old new answers result =
     Makes (λ naming declared ledger. MakeJumpTable (naming default) (map naming entries)) false (length old.func.now.tables.jump_tables ≡ 2 ^ 32 - 1)
     old.ctx.now.variables old new answers result
+
+-- an entry was put at the end of its table, or wasn't
+abbrev pub AppendsEntry : TableEntry → FunctionBuilder → FunctionBuilder → Result Entry BuildError → Type 0
+AppendsEntry entry old new result = (made : Result ℕ BuildError) × (result ≡ entry_made entry made) × MakesEntry entry old new made
 
 -- the value that a name leads to has one label more in the function
 abbrev pub LabelsValue : FunctionBuilder → FunctionBuilder → List Answer → Name → ℕ → Type 0

@@ -5,16 +5,16 @@ use Rattle.clif_types.specs.declared.types.«Type».{«Type»}
 use Rattle.clif_ir.specs.Body.{value_at}
 use Rattle.clif_instructions.specs.Members.{stands_in}
 use Rattle.clif_instructions.specs.declared.block_call.BlockCall.{BlockCall}
-use Rattle.clif_tables.specs.Entries.{TableEntry}
+use Rattle.clif_meaning.specs.Acceptance.{fits_stack_map}
 use Rattle.clif_meaning.specs.SameType.{same_type}
 use Rattle.clif_meaning.specs.Request.{AnsweredCall, Request}
-use Rattle.clif_meaning.specs.Ledger.{Answered, ABlock, AVariable, AValue, AnInstruction, AnEntry, AnEdge, AJumpTable, AnExceptionTable, edge_named}
+use Rattle.clif_meaning.specs.Ledger.{Answered, ABlock, AVariable, AValue, AnInstruction, AnEdge, edge_named}
 use Rattle.clif_meaning.specs.Instruction as meaning
 use Rattle.clif_meaning.specs.Name as named
 use Rattle.clif_simulation.specs.Carries.{numbers_from}
 use Rattle.clif_ssa.specs.Ssa.{predecessors_of}
 use Rattle.clif_builder.specs.declared.builder.FunctionBuilder.{FunctionBuilder}
-use Rattle.clif_builder.specs.Context.{status_of}
+use Rattle.clif_builder.specs.Context.{is_untouched, status_of}
 use Rattle.clif_builder.specs.Builder.{is_empty_status, is_filled_status, is_free, is_nothing}
 use Rattle.clif_types.specs.Signature.{SignatureShape}
 use Rattle.clif_builder.specs.Ledger.{NamesEdge, NamesEdges, NamesExceptions, ledger_of}
@@ -23,6 +23,7 @@ use Rattle.clif_builder.specs.LedgerLaws.{LedgerIsReadByNumber}
 use Rattle.clif_calls.specs.declared.call.Name.{Name}
 use Rattle.clif_calls.specs.declared.call.Call.{Call}
 use Rattle.clif_calls.specs.declared.call.Call.TheVariants as call
+use Rattle.clif_replay.specs.Entries.{entry_as, is_entry}
 use Rattle.clif_replay.specs.Requests.{Naming}
 use Rattle.clif_resolution.specs.declared.answers.Answer.{Answer}
 use Rattle.clif_resolution.specs.declared.answers.Answer.TheVariants as answer
@@ -40,9 +41,8 @@ AnswerIs (answer.Values first count) answered numbers =
 AnswerIs (answer.Inst i) answered numbers =
     (types : List «Type») × (results : List ℕ) × (answered ≡ AnInstruction ∷ map AValue types) × (numbers ≡ i ∷ results)
 AnswerIs (answer.Edge made) answered numbers = (edge : meaning.Edge named.Name named.Name) × (answered ≡ AnEdge edge ∷ []) × (numbers ≡ 0 ∷ [])
-AnswerIs answer.Table answered numbers = (number : ℕ) × (answered ≡ AJumpTable number ∷ []) × (numbers ≡ number ∷ [])
-AnswerIs answer.Exceptions answered numbers = (number : ℕ) × (answered ≡ AnExceptionTable number ∷ []) × (numbers ≡ number ∷ [])
-AnswerIs answer.Entry answered numbers = (entry : TableEntry) × (number : ℕ) × (answered ≡ AnEntry entry number ∷ []) × (numbers ≡ number ∷ [])
+AnswerIs (answer.Entry entry) answered numbers =
+    (one : Answered) × (number : ℕ) × (answered ≡ one ∷ []) × (numbers ≡ number ∷ []) × (entry ≡ entry_as one) × (is_entry one ≡ true)
 
 -- a call that answers nothing
 abbrev pub no_answer : Answer
@@ -168,6 +168,18 @@ can_define b ty value = is_open b && same_type ty (value_at b.func.now value).ty
 -- a variable of these may be used
 abbrev pub can_use : FunctionBuilder → List «Type» → ℕ → Bool
 can_use b types variable = is_open b && is_some (slice_get types variable)
+
+-- stack maps may be asked for a variable: its type fits, and it was neither used nor assigned so far
+abbrev pub fits_declared : Option «Type» → Bool
+fits_declared None = false
+fits_declared (Some ty) = fits_stack_map ty
+
+abbrev pub can_mark : FunctionBuilder → ℕ → Bool
+can_mark b variable = fits_declared (slice_get b.ctx.now.variables variable) && is_untouched b.ctx.now variable
+
+-- and for a value: its type fits
+abbrev pub can_record : FunctionBuilder → ℕ → Bool
+can_record b value = fits_stack_map (value_at b.func.now value).ty
 
 -- the types of the variables after a call that succeeded
 abbrev pub types_after : Call → List «Type» → List «Type»

@@ -1,19 +1,26 @@
 -- What comes of a list of calls: that plain calls made a function of it, and the verdict on it. Own.
-use Rattle.std.specs.Prelude.{◌≡◌, ◌⊎◌, ℕ, List, [], ◌∷◌, ◌++◌, length, take, drop, slice_get, Option, Some, None, true, Result, Ok, Err}
+use Rattle.std.specs.Prelude.{◌≡◌, ◌≢◌, ◌⊎◌, ℕ, List, [], ◌∷◌, ◌++◌, length, take, drop, slice_get, Option, Some, None, true, Result, Ok, Err}
 use Rattle.std.specs.List.{AllByRecursion}
 use Rattle.clif_ir.specs.Body.{Body}
 use Rattle.clif_meaning.specs.Instruction.{Bytes, Operation}
 use Rattle.clif_meaning.specs.Request.{Finalize, Script, AnsweredCall, script_of}
 use Rattle.clif_meaning.specs.Ledger.{empty_ledger}
+use Rattle.clif_meaning.specs.View.{view_of}
+use Rattle.clif_meaning.specs.WellPlaced.{WellPlaced}
 use Rattle.clif_meaning.specs.Acceptance.{Verdict, Accepted, Misuse, Refused}
 use Rattle.clif_types.specs.declared.types.«Type».{«Type»}
 use Rattle.clif_types.specs.Signature.{SignatureShape}
 use Rattle.clif_types.specs.Types.{bits_of}
+use Rattle.clif_types.specs.Target.{pointer_type_of}
 use Rattle.clif_types.specs.declared.extname.UserFuncName.{UserFuncName}
 use Rattle.clif_types.specs.declared.target.TargetFrontendConfig.{TargetFrontendConfig}
+use Rattle.clif_records.specs.Tracking.{recorded_of}
+use Rattle.clif_safepoints.specs.Contexts.{IsFirstTracked}
 use Rattle.clif_builder.specs.Context.{ContextState}
+use Rattle.clif_builder.specs.Ending.{BecomesSpilled}
 use Rattle.clif_builder.specs.StandsFor.{LeavesNoParameter, StandsIn}
 use Rattle.clif_calls.specs.declared.call.Call.{Call}
+use Rattle.clif_expansion.specs.CallsHeadline.{CallsPlacementPremises}
 use Rattle.clif_expansion.specs.CallsVerdict.{AreCallsTaken, verdict_on_call_attempts, verdict_on_calls_from}
 use Rattle.clif_expansion.specs.CallsVerdict as verdict
 use Rattle.clif_expansion.specs.JoinedCalls.{AreJoinedCalls}
@@ -22,8 +29,9 @@ use Rattle.clif_expansion.specs.Reading.{Reading}
 use Rattle.clif_expansion.specs.ScriptCall.{Ask, Emit, ScriptCall, call_allowed, ledger_of}
 use Rattle.clif_replay.specs.declared.script.ReplayError.{ReplayError}
 use Rattle.clif_replay.specs.declared.script.ReplayError.TheVariants as replay
+use Rattle.clif_replay.specs.Entries.{numbers_in}
 use Rattle.clif_replay.specs.Limits.{MeetsFullTable}
-use Rattle.clif_replay.specs.Requests.{attempts_from, attempts_of, call_of, calls_of, is_refusable}
+use Rattle.clif_replay.specs.Requests.{attempts_from, attempts_of, call_of, calls_of, is_refusable, name_of}
 
 abbrev pub AreBytesOf : (pointer_width : ℕ) → Operation → «Type» → Type 0
 AreBytesOf pointer_width (Bytes operation) ty = bits_of ty ≡ pointer_width
@@ -61,16 +69,45 @@ verdict_of (Err (replay.Refused place)) = Some (Refused place)
 verdict_of (Err replay.Memory) = None
 verdict_of (Err replay.Full) = None
 
--- The function was built by plain calls of these calls, and by no others: a builder of it, with this context and current block,
--- stands for them, on a function of the caller's signature; and no variable's parameter is left in a block to which at most one
--- branch leads.
-pub record IsBuiltBy (config : TargetFrontendConfig) (calls : List Call) (declared : SignatureShape) (f : Body) : Type 0 where
+-- What the calls build, as `finalize` finds it: a function, and with the context the values that its stack maps need. A builder of it,
+-- with this context and current block, stands for plain calls of these calls, and for no others, on a function of the caller's
+-- signature.
+pub record Found (config : TargetFrontendConfig) (calls : List Call) (declared : SignatureShape) : Type 0 where
+  pub function : Body
   pub made : List AnsweredCall
   pub plain : ArePlainCalls (script_of made) (calls_of config declared calls)
   pub context : ContextState
   pub position : Option ℕ
-  pub stands : StandsIn declared made f context position
-  pub parameters : LeavesNoParameter made f context.ssa
+  pub stands : StandsIn declared made function context position
+
+-- the values that its stack maps need
+abbrev pub recorded_in : {config : TargetFrontendConfig} {calls : List Call} {declared : SignatureShape} → Found config calls declared → List ℕ
+recorded_in found = recorded_of found.context.ssa.tracking
+
+-- A function is what becomes of one that the calls build, once the recorded values that live across calls are spilled.
+pub record IsBuiltBy (config : TargetFrontendConfig) (calls : List Call) (declared : SignatureShape) (f : Body) : Type 0 where
+  pub found : Found config calls declared
+  -- no variable's parameter is left in a block to which at most one branch leads
+  pub parameters : LeavesNoParameter found.made found.function found.context.ssa
+  -- values are given before they are used
+  pub well_placed : CallsPlacementPremises (calls_of config declared calls) declared → WellPlaced (view_of found.function)
+  -- no try call that is reached has a recorded value as its context
+  pub contexts : IsFirstTracked found.function (recorded_in found) None
+  pub spilled : BecomesSpilled found.function (recorded_in found) (pointer_type_of config.pointer_width) f
+
+-- A recorded value as a context ends a list of calls that are accepted: in the function that they build a try call that is reached
+-- has one.
+pub record IsStoppedByContext (config : TargetFrontendConfig) (calls : List Call) (declared : SignatureShape) : Type 0 where
+  pub accepted : verdict_on_call_attempts (attempts_of config declared calls) ≡ Accepted
+  pub found : Found config calls declared
+  pub inst : ℕ
+  pub tracked : IsFirstTracked found.function (recorded_in found) (Some inst)
+
+-- What an answer tells of the verdict on the calls: it is that, or `finalize` was refused for a context.
+abbrev pub TellsVerdict : TargetFrontendConfig → List Call → SignatureShape → Result Body ReplayError → Type 0
+TellsVerdict config calls declared answer =
+    (verdict_of answer ≡ Some (verdict_on_call_attempts (attempts_of config declared calls)))
+    ⊎ ((answer ≡ Err (replay.Refused (length calls))) × IsStoppedByContext config calls declared)
 
 -- A full table ends a list of calls: the calls before some place were made, and a builder of a function of this name and
 -- signature, with this context and current block, stands for them; and the call at that place is allowed then, and meets a full
@@ -89,4 +126,9 @@ pub record IsStoppedByTable (config : TargetFrontendConfig) (calls : List Call) 
   pub allowed :
       let ledger = ledger_of (calls_of config declared (take place calls)) in
       call_allowed ledger (call_of config declared ledger call) ≡ true
-  pub meets : MeetsFullTable call function context
+  pub meets : MeetsFullTable (numbers_in name_of (ledger_of (calls_of config declared (take place calls)))) call function context
+
+-- A full table ends the spills of recorded values, of which there are some.
+pub record IsStoppedInSpilling (config : TargetFrontendConfig) (calls : List Call) (declared : SignatureShape) : Type 0 where
+  pub found : Found config calls declared
+  pub some : recorded_in found ≢ []

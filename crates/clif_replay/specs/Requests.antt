@@ -3,7 +3,7 @@ use Rattle.std.specs.Prelude.{List, [], ◌∷◌, map, Bool, true, false}
 use Rattle.clif_tables.specs.Callees.{types_of}
 use Rattle.clif_meaning.specs.Name.{Name}
 use Rattle.clif_meaning.specs.Instruction.{AddConstant, Argument, Arithmetic, CallPayload, CallResult, CompareConstant, Edge, Instruction, Known}
-use Rattle.clif_meaning.specs.Request.{Request, CreateBlock, SwitchToBlock, SealBlock, SealAllBlocks, InsertBlockAfter, SetColdBlock, EnsureInsertedBlock, AppendBlockParams, AppendFunctionParams, DeclareVar, DefVar, UseVar, MakeEntry, MakeEdge, MakeExceptionTable, MakeJumpTable, Annotate, Build, ChangeJumpDestination}
+use Rattle.clif_meaning.specs.Request.{Request, CreateBlock, SwitchToBlock, SealBlock, SealAllBlocks, InsertBlockAfter, SetColdBlock, EnsureInsertedBlock, AppendBlockParams, AppendFunctionParams, DeclareVar, DefVar, UseVar, MakeEntry, MakeEdge, MakeExceptionTable, MakeJumpTable, Annotate, NeedStackMap, OfValue, OfVariable, Build, ChangeJumpDestination}
 use Rattle.clif_meaning.specs.Request as asked
 use Rattle.clif_meaning.specs.Ledger.{Ledger, empty_ledger, or_invalid, type_of}
 use Rattle.clif_meaning.specs.Acceptance.{pooled_const, jump, brif, br_table, call_function, call_indirect, try_call, try_call_indirect, return_, trap}
@@ -33,7 +33,8 @@ use Rattle.clif_expansion.specs.CallsVerdict.{CallAttempt}
 use Rattle.clif_expansion.specs.Constants.{computing}
 use Rattle.clif_expansion.specs.ScriptCall.{Ask, Emit, ScriptCall, ledger_with_call}
 use Rattle.clif_replay.specs.Cases.{switch_under}
-use Rattle.clif_replay.specs.Entries.{entry_in}
+use Rattle.clif_resolution.specs.Entries.{ExceptionTables, Functions, JumpTables, Numbers, Signatures}
+use Rattle.clif_replay.specs.Entries.{entry_in, numbers_in}
 use Rattle.clif_replay.specs.Helpers.{memory_under, nothing_moved}
 use Rattle.clif_resolution.specs.Plans.{operation_in, controlling_in}
 
@@ -65,61 +66,69 @@ item_of naming (item.Tag tag edge) = asked.TagTo tag (naming edge)
 item_of naming (item.Default edge) = asked.DefaultTo (naming edge)
 item_of naming (item.Context value) = asked.InContext (naming value)
 
--- the request of an instruction, which is made at types that the ledger tells
-abbrev pub request_in : Naming → Ledger → Plan → Request
-request_in naming ledger plan =
-    Build [] (record { operation = operation_in plan; controlling = controlling_in (λ name. or_invalid (type_of ledger (naming name))) plan; operands = map naming (operands_in plan); contexts = []; edges = map (edge_of naming) (edges_in plan) })
+-- the request of an instruction, with these numbers of entries, which is made at types that the ledger tells
+abbrev pub request_in : Numbers → Naming → Ledger → Plan → Request
+request_in numbers naming ledger plan =
+    Build [] (record { operation = operation_in numbers plan; controlling = controlling_in (λ name. or_invalid (type_of ledger (naming name))) plan; operands = map naming (operands_in plan); contexts = []; edges = map (edge_of naming) (edges_in plan) })
 
 -- the request of an outside call, of what the ledger's tables hold
-abbrev pub outside_request : Naming → Ledger → OutsideCall → Request
-outside_request naming ledger (outside.Call function args) = call_function ledger function (map naming args.items)
-outside_request naming ledger (outside.CallIndirect signature callee args) = call_indirect ledger signature (naming callee) (map naming args.items)
+abbrev pub outside_request : Numbers → Naming → Ledger → OutsideCall → Request
+outside_request numbers naming ledger (outside.Call function args) = call_function ledger (numbers Functions function) (map naming args.items)
+outside_request numbers naming ledger (outside.CallIndirect signature callee args) = call_indirect ledger (numbers Signatures signature) (naming callee) (map naming args.items)
 
 -- the request of a call along the edges of an exception table, of what the ledger's tables hold
-abbrev pub throwing_request : Naming → Ledger → ThrowingCall → Request
-throwing_request naming ledger (throwing.TryCall function args table) = try_call ledger function (map naming args.items) table
-throwing_request naming ledger (throwing.TryCallIndirect callee args table) = try_call_indirect ledger (naming callee) (map naming args.items) table
+abbrev pub throwing_request : Numbers → Naming → Ledger → ThrowingCall → Request
+throwing_request numbers naming ledger (throwing.TryCall function args table) =
+    try_call ledger (numbers Functions function) (map naming args.items) (numbers ExceptionTables table)
+throwing_request numbers naming ledger (throwing.TryCallIndirect callee args table) =
+    try_call_indirect ledger (naming callee) (map naming args.items) (numbers ExceptionTables table)
 
--- The request of a call, on a function of this signature, with its names so known. `brif` is made at the type of its condition,
--- which the ledger tells. What is emitted asks nothing of the builder itself: `call_of` tells what it is.
+-- The request of a call, on a function of this signature, with its names so known and these numbers of entries. `brif` is made at the
+-- type of its condition, which the ledger tells. What is emitted asks nothing of the builder itself: `call_of` tells what it is.
+abbrev pub request_with : Numbers → Naming → SignatureShape → Ledger → Call → Request
+request_with numbers naming signature ledger call.CreateBlock = CreateBlock
+request_with numbers naming signature ledger (call.SwitchToBlock block) = SwitchToBlock (naming block)
+request_with numbers naming signature ledger (call.SealBlock block) = SealBlock (naming block)
+request_with numbers naming signature ledger call.SealAllBlocks = SealAllBlocks
+request_with numbers naming signature ledger (call.InsertBlockAfter block after) = InsertBlockAfter (naming block) (naming after)
+request_with numbers naming signature ledger (call.SetColdBlock block) = SetColdBlock (naming block)
+request_with numbers naming signature ledger call.EnsureInsertedBlock = EnsureInsertedBlock
+request_with numbers naming signature ledger (call.AppendBlockParam block ty) = AppendBlockParams (naming block) (ty ∷ [])
+request_with numbers naming signature ledger (call.AppendBlockParamsForFunctionParams block) = AppendFunctionParams (naming block) (types_of signature.params)
+request_with numbers naming signature ledger (call.AppendBlockParamsForFunctionReturns block) = AppendBlockParams (naming block) (types_of signature.returns)
+request_with numbers naming signature ledger (call.Entry entry) = MakeEntry (entry_in numbers entry)
+request_with numbers naming signature ledger (call.BlockCall edge) = MakeEdge (table_edge_of naming edge)
+request_with numbers naming signature ledger (call.CreateJumpTable default entries) = MakeJumpTable (naming default) (map naming entries.items)
+request_with numbers naming signature ledger (call.CreateExceptionTable callee normal items) = MakeExceptionTable (numbers Signatures callee) (naming normal) (map (item_of naming) items.items)
+request_with numbers naming signature ledger (call.DeclareVar ty) = DeclareVar ty
+request_with numbers naming signature ledger (call.DeclareVarNeedsStackMap variable) = NeedStackMap (OfVariable variable)
+request_with numbers naming signature ledger (call.DeclareValueNeedsStackMap value) = NeedStackMap (OfValue (naming value))
+request_with numbers naming signature ledger (call.DefVar variable value) = DefVar variable (naming value)
+request_with numbers naming signature ledger (call.UseVar variable) = UseVar variable
+request_with numbers naming signature ledger (call.TryDefVar variable value) = DefVar variable (naming value)
+request_with numbers naming signature ledger (call.TryUseVar variable) = UseVar variable
+request_with numbers naming signature ledger (call.Plain instruction) = request_in numbers naming ledger (plan_of instruction)
+request_with numbers naming signature ledger (call.Cursor instruction) = request_in numbers naming ledger (plan_of instruction)
+request_with numbers naming signature ledger (call.Outside called) = outside_request numbers naming ledger called
+request_with numbers naming signature ledger (call.SetSrcloc srcloc) = Annotate false []
+request_with numbers naming signature ledger call.CollectDebugInfo = Annotate false []
+request_with numbers naming signature ledger (call.SetValLabel value label) = Annotate false (naming value ∷ [])
+request_with numbers naming signature ledger (call.ChangeJumpDestination branch from to) = ChangeJumpDestination (naming branch) (naming from) (naming to)
+request_with numbers naming signature ledger (call.F128const bytes) = pooled_const F128const Invalid bytes.items
+request_with numbers naming signature ledger (call.Vconst ty bytes) = pooled_const Vconst ty bytes.items
+request_with numbers naming signature ledger (call.Jump destination) = jump (edge_of naming destination)
+request_with numbers naming signature ledger (call.Brif condition block_then block_else) = brif ledger (naming condition) (edge_of naming block_then) (edge_of naming block_else)
+request_with numbers naming signature ledger (call.BrTable index table) = br_table ledger (naming index) (numbers JumpTables table)
+request_with numbers naming signature ledger (call.Throwing called) = throwing_request numbers naming ledger called
+request_with numbers naming signature ledger (call.Return values) = return_ (map naming values.items)
+request_with numbers naming signature ledger (call.Trap code) = trap code
+request_with numbers naming signature ledger (call.Immediate called) = Annotate false []
+request_with numbers naming signature ledger (call.Switch entries value otherwise) = Annotate false []
+request_with numbers naming signature ledger (call.Memory called) = nothing_moved naming called
+
+-- with the numbers that the ledger tells
 abbrev pub request_under : Naming → SignatureShape → Ledger → Call → Request
-request_under naming signature ledger call.CreateBlock = CreateBlock
-request_under naming signature ledger (call.SwitchToBlock block) = SwitchToBlock (naming block)
-request_under naming signature ledger (call.SealBlock block) = SealBlock (naming block)
-request_under naming signature ledger call.SealAllBlocks = SealAllBlocks
-request_under naming signature ledger (call.InsertBlockAfter block after) = InsertBlockAfter (naming block) (naming after)
-request_under naming signature ledger (call.SetColdBlock block) = SetColdBlock (naming block)
-request_under naming signature ledger call.EnsureInsertedBlock = EnsureInsertedBlock
-request_under naming signature ledger (call.AppendBlockParam block ty) = AppendBlockParams (naming block) (ty ∷ [])
-request_under naming signature ledger (call.AppendBlockParamsForFunctionParams block) = AppendFunctionParams (naming block) (types_of signature.params)
-request_under naming signature ledger (call.AppendBlockParamsForFunctionReturns block) = AppendBlockParams (naming block) (types_of signature.returns)
-request_under naming signature ledger (call.Entry entry) = MakeEntry (entry_in entry)
-request_under naming signature ledger (call.BlockCall edge) = MakeEdge (table_edge_of naming edge)
-request_under naming signature ledger (call.CreateJumpTable default entries) = MakeJumpTable (naming default) (map naming entries.items)
-request_under naming signature ledger (call.CreateExceptionTable callee normal items) = MakeExceptionTable callee (naming normal) (map (item_of naming) items.items)
-request_under naming signature ledger (call.DeclareVar ty) = DeclareVar ty
-request_under naming signature ledger (call.DefVar variable value) = DefVar variable (naming value)
-request_under naming signature ledger (call.UseVar variable) = UseVar variable
-request_under naming signature ledger (call.TryDefVar variable value) = DefVar variable (naming value)
-request_under naming signature ledger (call.TryUseVar variable) = UseVar variable
-request_under naming signature ledger (call.Plain instruction) = request_in naming ledger (plan_of instruction)
-request_under naming signature ledger (call.Cursor instruction) = request_in naming ledger (plan_of instruction)
-request_under naming signature ledger (call.Outside called) = outside_request naming ledger called
-request_under naming signature ledger (call.SetSrcloc srcloc) = Annotate false []
-request_under naming signature ledger call.CollectDebugInfo = Annotate false []
-request_under naming signature ledger (call.SetValLabel value label) = Annotate false (naming value ∷ [])
-request_under naming signature ledger (call.ChangeJumpDestination branch from to) = ChangeJumpDestination (naming branch) (naming from) (naming to)
-request_under naming signature ledger (call.F128const bytes) = pooled_const F128const Invalid bytes.items
-request_under naming signature ledger (call.Vconst ty bytes) = pooled_const Vconst ty bytes.items
-request_under naming signature ledger (call.Jump destination) = jump (edge_of naming destination)
-request_under naming signature ledger (call.Brif condition block_then block_else) = brif ledger (naming condition) (edge_of naming block_then) (edge_of naming block_else)
-request_under naming signature ledger (call.BrTable index table) = br_table ledger (naming index) table
-request_under naming signature ledger (call.Throwing called) = throwing_request naming ledger called
-request_under naming signature ledger (call.Return values) = return_ (map naming values.items)
-request_under naming signature ledger (call.Trap code) = trap code
-request_under naming signature ledger (call.Immediate called) = Annotate false []
-request_under naming signature ledger (call.Switch entries value otherwise) = Annotate false []
-request_under naming signature ledger (call.Memory called) = nothing_moved naming called
+request_under naming signature ledger call = request_with (numbers_in naming ledger) naming signature ledger call
 
 -- the request of a call with its own names
 abbrev pub request_of : SignatureShape → Ledger → Call → Request

@@ -10,6 +10,7 @@ mod make_entities;
 mod make_exceptions;
 mod make_immediate;
 mod make_instructions;
+mod make_marks;
 mod make_memory;
 mod make_notes;
 mod make_outside;

@@ -14,6 +14,7 @@ use crate::make_entities::make_entry;
 use crate::make_exceptions::{create_exception_table, make_throwing_call};
 use crate::make_immediate::make_immediate;
 use crate::make_instructions::{Lender, make_instruction};
+use crate::make_marks::{declare_value_needs_stack_map, declare_var_needs_stack_map};
 use crate::make_memory::make_memory;
 use crate::make_notes::{collect_debug_info, set_srcloc, set_val_label};
 use crate::make_outside::make_outside_call;
@@ -70,6 +71,12 @@ pub(crate) fn make_call(
             items,
         } => create_exception_table(builder, answers, *signature, *normal, items.as_slice()),
         Call::DeclareVar { ty } => declare_var(builder, answers, *ty),
+        Call::DeclareVarNeedsStackMap { variable } => {
+            declare_var_needs_stack_map(builder, answers, *variable)
+        }
+        Call::DeclareValueNeedsStackMap { value } => {
+            declare_value_needs_stack_map(builder, answers, *value)
+        }
         Call::DefVar { variable, value } => def_var(builder, answers, types, *variable, *value),
         Call::UseVar { variable } => use_var(builder, answers, types, *variable),
         Call::TryDefVar { variable, value } => try_def_var(builder, answers, *variable, *value),

@@ -10,14 +10,17 @@ use clif_builder::laws::{requests_ask_for_their_shapes, table_calls_add_nothing}
 use clif_builder::{FunctionBuilder, InstBuilderBase};
 use clif_calls::{Call, Name, TableItem, ThrowingCall};
 use clif_ir::{ExceptionTableData, ExceptionTargets};
-use clif_resolution::{Answer, CallError, edge_copied, items_found, operands_found, with_table};
-use clif_types::{BuildError, ExceptionTable, SigRef, Type};
+use clif_resolution::{
+    Answer, CallError, Entry, edge_copied, has_signature, items_found, operands_found,
+    signature_named, with_table,
+};
+use clif_types::{BuildError, ExceptionTable, Type};
 
-// `create_exception_table(ExceptionTableData { sig, normal, items })`, of edges that were answered.
+// `create_exception_table(ExceptionTableData { sig, normal, items })`, of edges that were answered and a signature that was imported.
 pub(crate) fn create_exception_table(
     builder: &mut FunctionBuilder<'_>,
     answers: &[Answer],
-    signature: SigRef,
+    signature: Name,
     normal: Name,
     items: &[TableItem],
 ) -> Result<Answer, CallError>
@@ -28,9 +31,14 @@ pub(crate) fn create_exception_table(
     table_calls_add_nothing();
     let normal = edge_copied(builder.func().allocator(), answers, normal)?;
     let items = items_found(builder.func(), answers, items)?;
-    let sig = signature;
-    builder.create_exception_table(ExceptionTableData { sig, normal, items })?;
-    Ok(Answer::Exceptions)
+    let Some(sig) = signature_named(answers, signature) else {
+        return Err(CallError::Misuse);
+    };
+    if !has_signature(builder, sig) {
+        return Err(CallError::Misuse);
+    }
+    let made = builder.create_exception_table(ExceptionTableData { sig, normal, items })?;
+    Ok(Answer::Entry(Entry::ExceptionTable(made)))
 }
 
 // A call along the edges of a table, in a current unfilled block, where the table serves nothing and no target of its edges
@@ -44,9 +52,9 @@ pub(crate) fn make_throwing_call(
     ensures { MakesCall (Call.Throwing called.now) builder.old builder.new answers.now result }
 {
     requests_ask_for_their_shapes();
-    let args = operands_found(builder, answers, called)?;
-    let held = take(builder, called.table())?;
-    let shape = with_table(called, args, held);
+    let tried = operands_found(builder, answers, called)?;
+    let held = take(builder, tried.table)?;
+    let shape = with_table(tried.function, tried.args, held);
     let inst = append(builder, Lender::Ins, shape, Type::Invalid)?;
     Ok(Answer::Inst(inst))
 }

@@ -13,7 +13,8 @@ use clif_builder::{FunctionBuilder, InstBuilder};
 use clif_calls::{Call, Name, TableEdge};
 use clif_ir::JumpTableData;
 use clif_resolution::{
-    Answer, CallError, edge_copied, edge_found, edges_copied, has_current, may_serve, value_named,
+    Answer, CallError, Entry, edge_copied, edge_found, edges_copied, has_current, jump_table_named,
+    may_serve, value_named,
 };
 use clif_types::{BuildError, Inst, JumpTable, Type, Value};
 
@@ -47,8 +48,8 @@ pub(crate) fn create_jump_table(
     let default = edge_copied(alloc, answers, default)?;
     let entries = edges_copied(alloc, answers, entries)?;
     let table = JumpTableData::new(default, entries)?;
-    builder.create_jump_table(table)?;
-    Ok(Answer::Table)
+    let made = builder.create_jump_table(table)?;
+    Ok(Answer::Entry(Entry::JumpTable(made)))
 }
 
 // `br_table(index, table)`, in a current unfilled block, where the table serves nothing and no target of its edges is sealed.
@@ -56,16 +57,19 @@ pub(crate) fn br_table(
     builder: &mut FunctionBuilder<'_>,
     answers: &[Answer],
     index: Name,
-    table: JumpTable,
+    name: Name,
 ) -> Result<Answer, CallError>
     requires { IsSound builder.old answers.now }
-    ensures { MakesCall (Call.BrTable index table) builder.old builder.new answers.now result }
+    ensures { MakesCall (Call.BrTable index name) builder.old builder.new answers.now result }
 {
     requests_ask_for_their_shapes();
     if !has_current(builder) {
         return Err(CallError::Misuse);
     }
     let Some(value) = value_named(builder.func(), answers, index) else {
+        return Err(CallError::Misuse);
+    };
+    let Some(table) = jump_table_named(answers, name) else {
         return Err(CallError::Misuse);
     };
     if !may_serve(builder, table) {

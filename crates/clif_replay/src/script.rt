@@ -1,20 +1,19 @@
 //! Scripts are replayed: each call is made on a builder, in order, if its condition holds.
-ghost use Rattle.std.specs.Prelude.{◌≡◌, ◌≢◌, ℕ, ◌<◌, List, [], length, false, OnOk, IfOk, IfErr, Err, Some};
+ghost use Rattle.std.specs.Prelude.{◌≡◌, ◌≢◌, ◌⊎◌, ℕ, ◌<◌, List, [], length, Some, false, OnOk, IfOk, IfErr, Err};
 ghost use Rattle.clif_meaning.specs.Request.{AnsweredCall};
 ghost use Rattle.clif_meaning.specs.Acceptance as acceptance;
 ghost use Rattle.clif_builder.specs.StandsFor.{StandsFor};
 ghost use Rattle.clif_meaning.specs.View.{view_of};
-ghost use Rattle.clif_expansion.specs.CallsHeadline.{CallersEdgesMatchInCalls, CallsMeanTheSame, CallsPlacementPremises};
+ghost use Rattle.clif_expansion.specs.CallsHeadline.{CallersEdgesMatchInCalls, CallsMeanTheSame};
 ghost use Rattle.clif_expansion.specs.CallsVerdict.{verdict_on_call_attempts};
 ghost use Rattle.clif_meaning.specs.Typing.{EdgesMatch};
-ghost use Rattle.clif_meaning.specs.WellPlaced.{WellPlaced};
 ghost use Rattle.clif_replay.specs.Replay.{ReplayMakes, ReplayTells};
 ghost use Rattle.clif_replay.specs.Requests.{attempts_of, calls_of};
-ghost use Rattle.clif_replay.specs.Replayed.{IsBuiltBy, IsReplayed, IsStoppedByTable, MayBeRefused, verdict_of};
+ghost use Rattle.clif_replay.specs.Replayed.{IsBuiltBy, IsReplayed, IsStoppedByTable, IsStoppedInSpilling, MayBeRefused, TellsVerdict};
 ghost use Rattle.clif_ir.specs.Body.{empty_body};
 ghost use Rattle.clif_builder.specs.Builder.{SameLoans};
 ghost use Rattle.clif_builder.specs.Context.{empty_context};
-ghost use Rattle.clif_replay.specs.Errors.{replay_error_at, replay_memory, replay_error_text};
+ghost use Rattle.clif_replay.specs.Errors.{end_error_at, replay_error_at, replay_memory, replay_error_text};
 
 use crate::make::make_call;
 use clif_builder::laws::ledger_is_read_by_number;
@@ -37,7 +36,8 @@ pub enum ReplayError {
     /// script is wrong. It prints as `misuse at call 3`.
     Misuse(usize),
     /// The call at this place was refused, for another cause than memory or a full table: `finalize`, where a block
-    /// was begun and not sealed or not filled, or a call that is only tried. It prints as `refused at call 4`.
+    /// was begun and not sealed or not filled, or where a try call that is reached has a value as its context that
+    /// stack maps need; a switch; or a call that is only tried. It prints as `refused at call 4`.
     Refused(usize),
     /// Memory was refused. It prints as `no memory`.
     Memory,
@@ -105,23 +105,34 @@ pub fn replay(
     ensures edges_match { IfOk result (λ function.
         CallersEdgesMatchInCalls (calls_of config signature calls.now)
         → EdgesMatch (view_of function)) }
-    ensures well_placed { IfOk result (λ function.
-        CallsPlacementPremises (calls_of config signature calls.now) signature
-        → WellPlaced (view_of function)) }
     ensures name { IfOk result (λ function. function.name ≡ name) }
     ensures context { ctx.new ≡ empty_context }
     ensures misuse { (i : ℕ) → result ≡ Err (ReplayError.Misuse i) → i < length calls.now }
     ensures refused { (i : ℕ) → result ≡ Err (ReplayError.Refused i) → MayBeRefused calls.now i }
     ensures table_full { result ≡ Err ReplayError.Full
-        → IsStoppedByTable config calls.now name signature }
+        → IsStoppedByTable config calls.now name signature
+        ⊎ IsStoppedInSpilling config calls.now signature }
     ensures verdict { result ≢ Err ReplayError.Memory
         → result ≢ Err ReplayError.Full
-        → verdict_of result
-        ≡ Some (verdict_on_call_attempts (attempts_of config signature calls.now)) }
+        → TellsVerdict config calls.now signature result }
 {
     let mut func = Function::with_name_signature(alloc, name, signature);
     build(alloc, calls, &mut func, ctx, config)?;
     Ok(func)
+}
+
+// What `finalize` refuses after so many calls.
+fn ended_at(error: FinalizeError, place: usize) -> ReplayError
+    ensures { result ≡ end_error_at error place }
+{
+    match error {
+        FinalizeError::Memory => ReplayError::Memory,
+        FinalizeError::Full => ReplayError::Full,
+        FinalizeError::Failed
+        | FinalizeError::Unsealed(_)
+        | FinalizeError::Unfilled(_)
+        | FinalizeError::TrackedContext(_) => ReplayError::Refused(place),
+    }
 }
 
 // Makes the calls, in order, on a builder of a function that is empty, and finishes it.
@@ -145,9 +156,7 @@ fn build(
     made?;
     match finished {
         Ok(()) => Ok(()),
-        Err(FinalizeError::Memory) => Err(ReplayError::Memory),
-        Err(FinalizeError::Full) => Err(ReplayError::Full),
-        Err(_) => Err(ReplayError::Refused(calls.len())),
+        Err(error) => Err(ended_at(error, calls.len())),
     }
 }
 

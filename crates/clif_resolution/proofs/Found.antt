@@ -1,17 +1,22 @@
 -- What names lead to is there.
-use Rattle.std.proofs.Common.{◌≡◌, ℕ, List, [], ◌∷◌, refl, ap, ◌∙◌}
-use Rattle.std.specs.Prelude.{map, Some, is_some, Bool, true, false, Result, Ok, Err}
+use Rattle.std.proofs.Common.{◌≡◌, ℕ, List, [], ◌∷◌, refl, ap, sym, subst, ◌∙◌, Vec, Global}
+use Rattle.std.specs.Prelude.{map, Option, Some, is_some, unwrap_or, Bool, true, false, Result, Ok, Err}
 use Rattle.std.proofs.lemmas.Bool.{and_from}
 use Rattle.clif_instructions.specs.declared.block_call.BlockArg.{BlockArg}
 use Rattle.clif_instructions.specs.declared.block_call.BlockArg.TheVariants as arg
 use Rattle.clif_instructions.specs.declared.block_call.BlockCall.{BlockCall}
+use Rattle.clif_instructions.specs.declared.instructions.InstructionData.TheVariants as shape
 use Rattle.clif_ir.specs.Body.{Body}
 use Rattle.clif_builder.specs.declared.builder.FunctionBuilder.{FunctionBuilder}
 use Rattle.clif_calls.specs.declared.call.Edge.{Edge}
 use Rattle.clif_calls.specs.declared.call.Name.{Name}
+use Rattle.clif_calls.specs.declared.outside.OutsideCall.{OutsideCall}
+use Rattle.clif_calls.specs.declared.outside.OutsideCall.TheVariants as outside
 use Rattle.clif_resolution.specs.declared.answers.Answer.{Answer}
 use Rattle.clif_resolution.specs.Conditions.{IsFound, is_target, may_lead, IsEdge, has_edge}
 use Rattle.clif_resolution.specs.Answers.{all_values, argument_of, block_of, value_of, all_passed, passed_in, Finds}
+use Rattle.clif_resolution.specs.Callings.{has_called, outside_shape}
+use Rattle.clif_resolution.specs.Entries.{Functions, Signatures, count_in, entry_of, numbers_at}
 use Rattle.clif_resolution.proofs.Options.{map-some}
 use Rattle.clif_types.specs.declared.error.BuildError.TheVariants.{Full}
 use Rattle.clif_calls.specs.declared.table.Passed.{Passed}
@@ -75,3 +80,16 @@ found-one {X = X} x found may = record { found = found; may = may; misuse = λ s
   where
     no-error : (e : CallError) → ◌≡◌ {A = Result X CallError} (Ok x) (Err e) → ⊥
     no-error e same = cc
+
+-- what is called was found
+pub call-found : (f : Body) (answers : List Answer) (called : OutsideCall) (function : Name) (args : Vec Name Global) (number : ℕ) (values : List ℕ) → called ≡ outside.Call function args
+    → Some number ≡ entry_of Functions answers function → (shape.Call number values ≡ outside_shape (numbers_at f answers) called values) × (has_called answers called ≡ true)
+call-found f answers called function args number values is entry =
+    subst (λ (c : OutsideCall). (shape.Call number values ≡ outside_shape (numbers_at f answers) c values) × (has_called answers c ≡ true)) (sym is)
+    (ap (λ (found : Option ℕ). shape.Call (unwrap_or found (count_in Functions f.tables)) values) entry, ap is_some (sym entry))
+
+pub address-found : (f : Body) (answers : List Answer) (called : OutsideCall) (signature callee : Name) (args : Vec Name Global) (number : ℕ) (values : List ℕ) → called ≡ outside.CallIndirect signature callee args
+    → Some number ≡ entry_of Signatures answers signature → (shape.CallIndirect number values ≡ outside_shape (numbers_at f answers) called values) × (has_called answers called ≡ true)
+address-found f answers called signature callee args number values is entry =
+    subst (λ (c : OutsideCall). (shape.CallIndirect number values ≡ outside_shape (numbers_at f answers) c values) × (has_called answers c ≡ true)) (sym is)
+    (ap (λ (found : Option ℕ). shape.CallIndirect (unwrap_or found (count_in Signatures f.tables)) values) entry, ap is_some (sym entry))

@@ -1,9 +1,9 @@
 -- The instruction of a plan: what it names is there.
 use Rattle.std.proofs.Common.{◌≡◌, ℕ, zero, suc, ◌<◌, List, [], ◌∷◌, length, refl, ap, arith, sym, ◌∙◌, subst}
-use Rattle.std.specs.Prelude.{◌↔◌, IsTrue, map, Some, None, Bool, true, false, Ok}
+use Rattle.std.specs.Prelude.{◌↔◌, ◌&&◌, IsTrue, is_some, map, nat_lt, unwrap_or, Option, Some, None, Bool, true, false, Ok}
 use Rattle.std.specs.List.{All, list_all}
 use Rattle.std.specs.Borrow.{Bor}
-use Rattle.std.proofs.lemmas.Bool.{and_from, and_parts, false_from_ne_true, false≢true, lt-ltb, ltb-true}
+use Rattle.std.proofs.lemmas.Bool.{and_from, and_left, and_parts, and_right, false_from_ne_true, false≢true, lt-ltb, ltb-true}
 use Rattle.clif_types.specs.declared.types.«Type».{«Type»}
 use Rattle.clif_types.specs.declared.types.«Type».TheVariants.{Invalid}
 use Rattle.clif_instructions.specs.Instruction.{EntryRef, AConstant, AFunctionRef, ASignatureRef, ASlot, destinations, entries_of, operands}
@@ -25,18 +25,20 @@ use Rattle.clif_meaning.specs.Typing.{call_shape}
 use Rattle.clif_meaning.specs.Instruction.{Compute, Operation, PooledConst, operation_entries}
 use Rattle.clif_meaning.specs.View.{operation_of}
 use Rattle.clif_resolution.specs.declared.plans.Planned.{Planned}
-use Rattle.clif_resolution.specs.Plans.{AreFound, IsPlanned, ValuesExist, has_entries, has_names, operation_in}
+use Rattle.clif_resolution.specs.Plans.{AreFound, IsPlanned, ValuesExist, can_make, has_entries, has_names, has_slot, operation_in}
+use Rattle.clif_ir.specs.Body.{Body}
 use Rattle.clif_resolution.specs.Answers.{Finds, all_values, value_of}
-use Rattle.clif_resolution.specs.Conditions.{may_lead}
+use Rattle.clif_resolution.specs.Conditions.{is_open, may_lead}
+use Rattle.clif_resolution.specs.Entries.{NamedTable, Numbers, StackSlots, count_in, entry_of, numbers_at}
 use Rattle.clif_resolution.proofs.Found.{all-found, found-leads, found-one}
 
 -- no plan asks for a call
-calls-nothing : (p : Plan) → call_shape (operation_in p) ≡ None
-calls-nothing (plan.Jump destination) = refl
-calls-nothing _ = refl
+calls-nothing : (numbers : Numbers) (p : Plan) → call_shape (operation_in numbers p) ≡ None
+calls-nothing numbers (plan.Jump destination) = refl
+calls-nothing numbers _ = refl
 
-pub never-calls : (p : Plan) {call : CallShape} → call_shape (operation_in p) ≡ Some call → ⊥
-never-calls p {call} is = let none : call_shape (operation_in p) ≡ None = calls-nothing p in cc
+pub never-calls : (numbers : Numbers) (p : Plan) {call : CallShape} → call_shape (operation_in numbers p) ≡ Some call → ⊥
+never-calls numbers p {call} is = let none : call_shape (operation_in numbers p) ≡ None = calls-nothing numbers p in cc
 
 -- the entries that it names exist
 abbrev is-pooled : Operation → Bool
@@ -44,19 +46,19 @@ is-pooled (Compute (PooledConst opcode bytes)) = true
 is-pooled _ = false
 
 -- no plan asks for a pooled constant
-never-pooled : (p : Plan) → is-pooled (operation_in p) ≡ false
-never-pooled (plan.Jump destination) = refl
-never-pooled _ = refl
+never-pooled : (numbers : Numbers) (p : Plan) → is-pooled (operation_in numbers p) ≡ false
+never-pooled numbers (plan.Jump destination) = refl
+never-pooled numbers _ = refl
 
-pub entries-alike : (tables : TableLists) (p : Plan) (s : InstructionData) → operation_in p ≡ operation_of tables s → operation_entries (operation_in p) ≡ entries_of s
-entries-alike tables p (shape.UnaryConst opcode constant) same =
-    let no_way : false ≡ true = sym (never-pooled p) ∙ ap is-pooled same in absurd (false≢true no_way)
-entries-alike tables p (shape.UnaryIeee opcode bits) same = ap operation_entries same
-entries-alike tables p (shape.Call function args) same = absurd (never-calls p (ap call_shape same))
-entries-alike tables p (shape.CallIndirect sig args) same = absurd (never-calls p (ap call_shape same))
-entries-alike tables p (shape.TryCall function args table) same = absurd (never-calls p (ap call_shape same))
-entries-alike tables p (shape.TryCallIndirect args table) same = absurd (never-calls p (ap call_shape same))
-entries-alike tables p _ same = ap operation_entries same
+pub entries-alike : (tables : TableLists) (numbers : Numbers) (p : Plan) (s : InstructionData) → operation_in numbers p ≡ operation_of tables s → operation_entries (operation_in numbers p) ≡ entries_of s
+entries-alike tables numbers p (shape.UnaryConst opcode constant) same =
+    let no_way : false ≡ true = sym (never-pooled numbers p) ∙ ap is-pooled same in absurd (false≢true no_way)
+entries-alike tables numbers p (shape.UnaryIeee opcode bits) same = ap operation_entries same
+entries-alike tables numbers p (shape.Call function args) same = absurd (never-calls numbers p (ap call_shape same))
+entries-alike tables numbers p (shape.CallIndirect sig args) same = absurd (never-calls numbers p (ap call_shape same))
+entries-alike tables numbers p (shape.TryCall function args table) same = absurd (never-calls numbers p (ap call_shape same))
+entries-alike tables numbers p (shape.TryCallIndirect args table) same = absurd (never-calls numbers p (ap call_shape same))
+entries-alike tables numbers p _ same = ap operation_entries same
 
 entry-exists : (tables : TableLists) (entry : EntryRef) → has_entry tables entry ≡ true → EntryExists tables entry
 entry-exists tables (ASlot number) there = ltb-true number (length tables.stack_slots) there
@@ -90,9 +92,9 @@ entries-tested tables entries false tells =
 
 -- a test of what the shape names is one of what the plan names
 pub entries-same : (b : FunctionBuilder) (answers : List Answer) (p : Plan) (s : InstructionData) (ty : «Type») (test : Bool) → IsPlanned b answers p s ty
-    → IsTrue test ↔ All (EntryExists b.func.now.tables) (entries_of s) → has_entries b.func.now p ≡ test
+    → IsTrue test ↔ All (EntryExists b.func.now.tables) (entries_of s) → has_entries b.func.now answers p ≡ test
 entries-same b answers p s ty test planned tells =
-    ap (list_all (has_entry b.func.now.tables)) (entries-alike b.func.now.tables p s planned.operation) ∙ entries-tested b.func.now.tables (entries_of s) test tells
+    ap (list_all (has_entry b.func.now.tables)) (entries-alike b.func.now.tables (numbers_at b.func.now answers) p s planned.operation) ∙ entries-tested b.func.now.tables (entries_of s) test tells
 
 -- the first of the values that names lead to exists, and so does the second
 pub first-exists : (b : FunctionBuilder) (answers : List Answer) (names : List Name) (x : ℕ) (xs : List ℕ) → ValuesExist b answers
@@ -124,9 +126,35 @@ pub planned-returns : (b : FunctionBuilder) (answers : List Answer) (args : Bor 
 planned-returns b answers args values found = record { operation = refl; controlling = refl; typed = refl; operands = found; edges = tt }
 
 -- the instruction was found
-pub planned-found : (b : FunctionBuilder) (answers : List Answer) (given p : Plan) (made : Planned) (s : InstructionData) (ty : «Type») → given ≡ p → made ≡ record { shape = s; ty = ty } → IsPlanned b answers p s ty
-    → Finds (λ (x : Planned). IsPlanned b answers given x.shape x.ty) (has_names b answers given) (Ok made)
-planned-found b answers given p made s ty is same planned =
+pub planned-found : (b : FunctionBuilder) (answers : List Answer) (given p : Plan) (made : Planned) (s : InstructionData) (ty : «Type») → given ≡ p → made ≡ record { shape = s; ty = ty } → has_slot answers p ≡ true
+    → IsPlanned b answers p s ty → Finds (λ (x : Planned). IsPlanned b answers given x.shape x.ty) (has_slot answers given && has_names b answers given) (Ok made)
+planned-found b answers given p made s ty is same slot planned =
     let here : IsPlanned b answers given made.shape made.ty =
     subst (λ (x : Planned). IsPlanned b answers given x.shape x.ty) (sym same) (subst (λ (q : Plan). IsPlanned b answers q s ty) (sym is) planned) in
-    found-one made here (planned-named b answers given made.shape made.ty here)
+    found-one made here
+    (and_from (has_slot answers given) (has_names b answers given) (ap (has_slot answers) is ∙ slot) (planned-named b answers given made.shape made.ty here))
+
+-- a name that leads to no stack slot stands for none
+pub none-below : (n : ℕ) → nat_lt n n ≡ false
+none-below n = false_from_ne_true (nat_lt n n) (λ below. let less : n < n = ltb-true n n below in omega (arith, less))
+
+pub none-there : (f : Body) (answers : List Answer) (table : NamedTable) (name : Name) → is_some (entry_of table answers name) ≡ false
+    → nat_lt (numbers_at f answers table name) (count_in table f.tables) ≡ false
+none-there f answers table name missing = by (entry_of table answers name) missing
+  where
+    by : (o : Option ℕ) → is_some o ≡ false → nat_lt (unwrap_or o (count_in table f.tables)) (count_in table f.tables) ≡ false
+    by None is = none-below (count_in table f.tables)
+    by (Some number) is = let no_way : ⊥ = cc in absurd no_way
+
+no-slot : (f : Body) (answers : List Answer) (p : Plan) → has_slot answers p ≡ false → has_entries f answers p ≡ false
+no-slot f answers (plan.StackLoad opcode ty slot offset) missing = ap (λ (test : Bool). test && true) (none-there f answers StackSlots slot missing)
+no-slot f answers (plan.StackStore arg slot offset) missing = ap (λ (test : Bool). test && true) (none-there f answers StackSlots slot missing)
+no-slot f answers _ missing = let no_way : ⊥ = cc in absurd no_way
+
+-- where it leads to none, or another name to nothing that fits, the instruction may not be made
+pub names-denied : (b : FunctionBuilder) (answers : List Answer) (p : Plan) → (has_slot answers p && has_names b answers p) ≡ false → can_make b answers p ≡ false
+names-denied b answers p denied = by (has_slot answers p) refl denied
+  where
+    by : (slot : Bool) → has_slot answers p ≡ slot → (slot && has_names b answers p) ≡ false → can_make b answers p ≡ false
+    by true at names = and_left _ _ (and_left _ _ (and_right (is_open b) (has_names b answers p) names))
+    by false at names = and_right _ _ (no-slot b.func.now answers p at)

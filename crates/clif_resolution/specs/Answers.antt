@@ -24,10 +24,8 @@ block_in index (Some answer.Nothing) = None
 block_in index (Some (answer.Variable v)) = None
 block_in index (Some (answer.Values first count)) = None
 block_in index (Some (answer.Inst i)) = None
-block_in index (Some answer.Entry) = None
+block_in index (Some (answer.Entry entry)) = None
 block_in index (Some (answer.Edge edge)) = None
-block_in index (Some answer.Table) = None
-block_in index (Some answer.Exceptions) = None
 block_in index None = None
 
 abbrev pub block_of : List Answer → Name → Option ℕ
@@ -48,10 +46,8 @@ value_in f index (Some (answer.Inst i)) = if index == 0 then None else slice_get
 value_in f index (Some answer.Nothing) = None
 value_in f index (Some (answer.Block b)) = None
 value_in f index (Some (answer.Variable v)) = None
-value_in f index (Some answer.Entry) = None
+value_in f index (Some (answer.Entry entry)) = None
 value_in f index (Some (answer.Edge edge)) = None
-value_in f index (Some answer.Table) = None
-value_in f index (Some answer.Exceptions) = None
 value_in f index None = None
 
 abbrev pub value_of : Body → List Answer → Name → Option ℕ
@@ -63,10 +59,8 @@ AnswerExists f (answer.Inst i) = i < length f.insts
 AnswerExists f answer.Nothing = Unit {0}
 AnswerExists f (answer.Block b) = Unit {0}
 AnswerExists f (answer.Variable v) = Unit {0}
-AnswerExists f answer.Entry = Unit {0}
+AnswerExists f (answer.Entry entry) = Unit {0}
 AnswerExists f (answer.Edge edge) = Unit {0}
-AnswerExists f answer.Table = Unit {0}
-AnswerExists f answer.Exceptions = Unit {0}
 AnswerExists f (answer.Values first count) = (k : ℕ) → k < count → first + k < length f.values
 
 -- what each answer names exists

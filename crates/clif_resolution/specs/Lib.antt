@@ -1,5 +1,6 @@
 -- What the contracts of this crate cite.
 pub mod Answers
+pub mod Entries
 pub mod Conditions
 pub mod Plans
 pub mod Callings

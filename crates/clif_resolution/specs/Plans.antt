@@ -1,5 +1,5 @@
 -- The instruction that a plan asks for, with what its names lead to. Own.
-use Rattle.std.specs.Prelude.{◌≡◌, ℕ, List, [], ◌∷◌, length, map, drop, Option, Some, None, Bool, Result, ◌<◌, ◌&&◌}
+use Rattle.std.specs.Prelude.{◌≡◌, ℕ, List, [], ◌∷◌, length, map, drop, Option, Some, None, Bool, true, is_some, Result, ◌<◌, ◌&&◌}
 use Rattle.clif_ir.specs.Body.{Body, value_at}
 use Rattle.clif_meaning.specs.Instruction.{Binary, Brif, Compare, Compute, Concat, CondTrap, Convert, FloatConst, Iconst, Jump, Load, Operation, Return, Select, Split, Stack, StackStore, Store, Trap, Unary, operation_entries}
 use Rattle.clif_meaning.specs.Acceptance.{can_operate, has_entry}
@@ -20,28 +20,29 @@ use Rattle.clif_resolution.specs.declared.plans.Planned.{Planned}
 use Rattle.clif_resolution.specs.declared.answers.Answer.{Answer}
 use Rattle.clif_resolution.specs.declared.answers.CallError.{CallError}
 use Rattle.clif_resolution.specs.Conditions.{IsFound, is_open, may_lead}
+use Rattle.clif_resolution.specs.Entries.{Numbers, StackSlots, entry_of, numbers_at}
 use Rattle.clif_resolution.specs.Answers.{all_values, value_of, Finds}
 
 -- what an instruction of a plan does
-abbrev pub operation_in : Plan → Operation
-operation_in (plan.UnaryImm ty imm) = Compute (Iconst imm)
-operation_in (plan.UnaryIeee opcode bits) = Compute (FloatConst opcode bits)
-operation_in (plan.Unary opcode arg) = Compute (Unary opcode)
-operation_in (plan.Binary opcode args) = Compute (Binary opcode)
-operation_in (plan.Convert opcode ty arg) = Compute (Convert opcode)
-operation_in (plan.Concat args) = Compute Concat
-operation_in (plan.Split arg) = Compute Split
-operation_in (plan.IntCompare cond args) = Compute (Compare cond)
-operation_in (plan.Ternary args) = Compute Select
-operation_in (plan.Load flags ty arg offset) = Load flags offset
-operation_in (plan.Store flags args offset) = Store flags offset
-operation_in (plan.StackLoad opcode ty slot offset) = Stack opcode slot offset
-operation_in (plan.StackStore arg slot offset) = StackStore slot offset
-operation_in (plan.Trap code) = Trap code
-operation_in (plan.CondTrap opcode arg code) = CondTrap opcode code
-operation_in (plan.Jump destination) = Jump
-operation_in (plan.Brif condition block_then block_else) = Brif
-operation_in (plan.MultiAry args) = Return
+abbrev pub operation_in : Numbers → Plan → Operation
+operation_in numbers (plan.UnaryImm ty imm) = Compute (Iconst imm)
+operation_in numbers (plan.UnaryIeee opcode bits) = Compute (FloatConst opcode bits)
+operation_in numbers (plan.Unary opcode arg) = Compute (Unary opcode)
+operation_in numbers (plan.Binary opcode args) = Compute (Binary opcode)
+operation_in numbers (plan.Convert opcode ty arg) = Compute (Convert opcode)
+operation_in numbers (plan.Concat args) = Compute Concat
+operation_in numbers (plan.Split arg) = Compute Split
+operation_in numbers (plan.IntCompare cond args) = Compute (Compare cond)
+operation_in numbers (plan.Ternary args) = Compute Select
+operation_in numbers (plan.Load flags ty arg offset) = Load flags offset
+operation_in numbers (plan.Store flags args offset) = Store flags offset
+operation_in numbers (plan.StackLoad opcode ty slot offset) = Stack opcode (numbers StackSlots slot) offset
+operation_in numbers (plan.StackStore arg slot offset) = StackStore (numbers StackSlots slot) offset
+operation_in numbers (plan.Trap code) = Trap code
+operation_in numbers (plan.CondTrap opcode arg code) = CondTrap opcode code
+operation_in numbers (plan.Jump destination) = Jump
+operation_in numbers (plan.Brif condition block_then block_else) = Brif
+operation_in numbers (plan.MultiAry args) = Return
 
 -- the type of the first operand, by the types of names
 abbrev pub first_type : (Name → «Type») → List Name → «Type»
@@ -83,7 +84,7 @@ AreFound b answers _ _ = ⊥
 
 -- an instruction of the plan has this shape and is made at this type
 pub record IsPlanned (b : FunctionBuilder) (answers : List Answer) (plan : Plan) (shape : InstructionData) (ty : «Type») : Type 0 where
-  pub operation : operation_in plan ≡ operation_of b.func.now.tables shape
+  pub operation : operation_in (numbers_at b.func.now answers) plan ≡ operation_of b.func.now.tables shape
   pub controlling : controlling_in (λ name. type_in b.func.now (value_of b.func.now answers name)) plan ≡ made_at b.func.now shape ty
   pub typed : result_types shape ty ≡ result_types shape (made_at b.func.now shape ty)
   pub operands : map (value_of b.func.now answers) (operands_in plan) ≡ map Some (operands shape)
@@ -93,17 +94,23 @@ pub record IsPlanned (b : FunctionBuilder) (answers : List Answer) (plan : Plan)
 abbrev pub has_names : FunctionBuilder → List Answer → Plan → Bool
 has_names b answers plan = all_values b.func.now answers (operands_in plan) && list_all (may_lead b answers) (edges_in plan)
 
+-- the name of a stack slot leads to one
+abbrev pub has_slot : List Answer → Plan → Bool
+has_slot answers (plan.StackLoad opcode ty slot offset) = is_some (entry_of StackSlots answers slot)
+has_slot answers (plan.StackStore arg slot offset) = is_some (entry_of StackSlots answers slot)
+has_slot answers _ = true
+
 -- the instruction of a plan is found, where what it names is there
 abbrev pub FindsPlan : FunctionBuilder → List Answer → Plan → Result Planned CallError → Type 0
-FindsPlan b answers plan result = Finds (λ (p : Planned). IsPlanned b answers plan p.shape p.ty) (has_names b answers plan) result
+FindsPlan b answers plan result = Finds (λ (p : Planned). IsPlanned b answers plan p.shape p.ty) (has_slot answers plan && has_names b answers plan) result
 
 -- the entries of tables that it names were made
-abbrev pub has_entries : Body → Plan → Bool
-has_entries f plan = list_all (has_entry f.tables) (operation_entries (operation_in plan))
+abbrev pub has_entries : Body → List Answer → Plan → Bool
+has_entries f answers plan = list_all (has_entry f.tables) (operation_entries (operation_in (numbers_at f answers) plan))
 
 -- it may be made
 abbrev pub can_make : FunctionBuilder → List Answer → Plan → Bool
 can_make b answers plan =
     (is_open b && has_names b answers plan)
-    && can_operate (operation_in plan) (controlling_in (λ name. type_in b.func.now (value_of b.func.now answers name)) plan)
-    && has_entries b.func.now plan
+    && can_operate (operation_in (numbers_at b.func.now answers) plan) (controlling_in (λ name. type_in b.func.now (value_of b.func.now answers name)) plan)
+    && has_entries b.func.now answers plan

@@ -4,8 +4,27 @@ ghost use Rattle.clif_resolution.specs.Errors.{call_error_of, call_memory};
 
 use clif_ir::BlockCall;
 use clif_records::Variable;
-use clif_types::{Block, BuildError, Inst, Value};
+use clif_types::{
+    Block, BuildError, ExceptionTable, FuncRef, Inst, JumpTable, SigRef, StackSlot, Value,
+};
 use std::alloc::{AllocError, AllocFailed};
+
+/// An entry of a table of the function.
+#[derive(Clone, Copy, Debug, PartialEq, Eq)]
+pub enum Entry {
+    /// a stack slot
+    StackSlot(StackSlot),
+    /// a signature that was imported
+    Signature(SigRef),
+    /// a function that was imported
+    Function(FuncRef),
+    /// a jump table
+    JumpTable(JumpTable),
+    /// an exception table
+    ExceptionTable(ExceptionTable),
+    /// an entry that no call names: a dynamic stack slot or a global value
+    Unnamed,
+}
 
 /// What a call answered: its values have numbers that follow one another, and the results of an
 /// instruction are asked of the function.
@@ -26,14 +45,10 @@ pub enum Answer {
     },
     /// an instruction
     Inst(Inst),
-    /// an entry of a table, which calls name by its number
-    Entry,
+    /// an entry of a table
+    Entry(Entry),
     /// an edge, of which tables get copies
     Edge(BlockCall),
-    /// a jump table, which calls name by its number
-    Table,
-    /// an exception table, which calls name by its number
-    Exceptions,
 }
 
 /// Why one call didn't succeed.

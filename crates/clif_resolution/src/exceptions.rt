@@ -1,18 +1,20 @@
 //! The items of exception tables, and the operands of the calls that they serve.
 ghost use Rattle.std.specs.Prelude.{◌≡◌, ◌≢◌, ◌&&◌, ◌<◌, map, Some, is_some, IfOk, Err, false};
-ghost use Rattle.clif_calls.specs.Tables.{table_of, tried_operands};
+ghost use Rattle.clif_calls.specs.Tables.{tried_operands};
 ghost use Rattle.clif_resolution.specs.Answers.{Finds, AnswersExist, all_items, all_values, item_in, value_of};
-ghost use Rattle.clif_resolution.specs.Callings.{can_try, has_callee, throwing_shape};
+ghost use Rattle.clif_resolution.specs.Callings.{IsTried, callee_in, can_try, has_callee, shape_with};
 ghost use Rattle.clif_resolution.specs.Conditions.{tries};
+ghost use Rattle.clif_resolution.specs.Entries.{ExceptionTables, numbers_at};
 
 use crate::answers::{Answer, CallError};
 use crate::conditions::{are_open, has_current, has_signature};
+use crate::entries::{exception_table_named, function_named};
 use crate::names::{value_named, values_named};
 use crate::tables::edge_copied;
 use clif_builder::FunctionBuilder;
-use clif_calls::{TableItem, ThrowingCall};
+use clif_calls::{Name, TableItem, ThrowingCall};
 use clif_ir::{ExceptionTableItem, ExceptionTargets, Function, InstructionData, ValueList};
-use clif_types::ExceptionTable;
+use clif_types::{ExceptionTable, FuncRef};
 
 // An item of a table, with what its name leads to.
 fn item_found(
@@ -66,7 +68,18 @@ pub fn items_found(
     Ok(made)
 }
 
-/// The values that a call names, where it may be made.
+/// What a call along the edges of an exception table names.
+#[derive(Drop)]
+pub struct Tried {
+    /// the function that is called, where it isn't an address
+    pub function: Option<FuncRef>,
+    /// the table
+    pub table: ExceptionTable,
+    /// the values: what is called, where it is an address, and what is passed
+    pub args: ValueList,
+}
+
+/// What a call names, where it may be made.
 ///
 /// # Errors
 ///
@@ -75,20 +88,22 @@ pub fn operands_found(
     builder: &FunctionBuilder<'_>,
     answers: &[Answer],
     called: &ThrowingCall,
-) -> Result<ValueList, CallError>
+) -> Result<Tried, CallError>
     requires { AnswersExist builder.now.func.now answers.now }
-    ensures { Finds (λ values. map (value_of builder.now.func.now answers.now)
-        (tried_operands called.now) ≡ map Some values)
+    ensures { Finds (IsTried builder.now answers.now called.now)
         (can_try builder.now answers.now called.now) result }
 {
     if !has_current(builder) {
         return Err(CallError::Misuse);
     }
-    let values = values_tried(builder.func(), answers, called)?;
-    if !may_try(builder, called) {
-        return Err(CallError::Misuse);
-    }
-    Ok(values)
+    let args = values_tried(builder.func(), answers, called)?;
+    let function = callee_found(builder.func(), answers, called)?;
+    let table = table_found(builder, answers, called.table())?;
+    Ok(Tried {
+        function,
+        table,
+        args,
+    })
 }
 
 // The values that a call names.
@@ -106,22 +121,45 @@ fn values_tried(
     Ok(values)
 }
 
-// Whether what is called was imported, where it isn't an address, and the table may serve.
-fn may_try(builder: &FunctionBuilder<'_>, called: &ThrowingCall) -> bool
-    ensures { result ≡ (has_callee builder.now.func.now called.now
-        && tries builder.now (table_of called.now)) }
-{
-    has_callee(builder.func(), called) && tries(builder, called.table())
-}
-
-// Whether what is called was imported, where it isn't an address.
-fn has_callee(func: &Function, called: &ThrowingCall) -> bool
-    ensures { result ≡ has_callee func.now called.now }
+// The function that is called, where it isn't an address.
+fn callee_found(
+    func: &Function,
+    answers: &[Answer],
+    called: &ThrowingCall,
+) -> Result<Option<FuncRef>, CallError>
+    ensures { Finds (λ function. function ≡ callee_in (numbers_at func.now answers.now) called.now)
+        (has_callee func.now answers.now called.now) result }
 {
     match called {
-        ThrowingCall::TryCall { function, .. } => func.tables().function(*function).is_some(),
-        ThrowingCall::TryCallIndirect { .. } => true,
+        ThrowingCall::TryCall { function, .. } => {
+            let Some(function) = function_named(answers, *function) else {
+                return Err(CallError::Misuse);
+            };
+            if func.tables().function(function).is_none() {
+                return Err(CallError::Misuse);
+            }
+            Ok(Some(function))
+        }
+        ThrowingCall::TryCallIndirect { .. } => Ok(None),
     }
+}
+
+// The table that a name leads to, where it may serve a call.
+fn table_found(
+    builder: &FunctionBuilder<'_>,
+    answers: &[Answer],
+    name: Name,
+) -> Result<ExceptionTable, CallError>
+    ensures { Finds (λ table. table ≡ numbers_at builder.now.func.now answers.now ExceptionTables name)
+        (tries builder.now (numbers_at builder.now.func.now answers.now ExceptionTables name)) result }
+{
+    let Some(table) = exception_table_named(answers, name) else {
+        return Err(CallError::Misuse);
+    };
+    if !tries(builder, table) {
+        return Err(CallError::Misuse);
+    }
+    Ok(table)
 }
 
 // Whether a table serves nothing so far and may serve a call: no target of its edges is sealed, and its signature was
@@ -137,23 +175,20 @@ fn tries(builder: &FunctionBuilder<'_>, table: ExceptionTable) -> bool
     }
 }
 
-/// The instruction of a call, with these values and what its table held.
+/// The instruction of a call of this function, or else of an address, with these values and what its table held.
 pub fn with_table(
-    called: &ThrowingCall,
+    function: Option<FuncRef>,
     args: ValueList,
     exception: ExceptionTargets,
 ) -> InstructionData
-    ensures { result ≡ throwing_shape called.now args exception }
+    ensures { result ≡ shape_with function args exception }
 {
-    match called {
-        ThrowingCall::TryCall { function, .. } => InstructionData::TryCall {
-            func_ref: *function,
+    match function {
+        Some(func_ref) => InstructionData::TryCall {
+            func_ref,
             args,
             exception,
         },
-        ThrowingCall::TryCallIndirect { .. } => InstructionData::TryCallIndirect {
-            args,
-            exception,
-        },
+        None => InstructionData::TryCallIndirect { args, exception },
     }
 }

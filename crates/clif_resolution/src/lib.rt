@@ -4,15 +4,19 @@
 
 mod answers;
 mod conditions;
+mod entries;
 mod exceptions;
 mod names;
 mod outside;
 mod plans;
 mod tables;
 
-pub use answers::{Answer, CallError};
+pub use answers::{Answer, CallError, Entry};
 pub use conditions::{has_current, has_signature, may_seal};
-pub use exceptions::{items_found, operands_found, with_table};
+pub use entries::{
+    exception_table_named, function_named, jump_table_named, signature_named, stack_slot_named,
+};
+pub use exceptions::{Tried, items_found, operands_found, with_table};
 pub use names::{block_named, inst_named, value_named};
 pub use outside::outside_call_found;
 pub use plans::{Planned, plan_found};

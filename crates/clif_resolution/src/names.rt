@@ -66,10 +66,8 @@ fn value_in(func: &Function, answer: &Answer, place: usize) -> Option<Value>
         | Answer::Nothing
         | Answer::Block(_)
         | Answer::Variable(_)
-        | Answer::Entry
         | Answer::Edge(_)
-        | Answer::Table
-        | Answer::Exceptions => None,
+        | Answer::Entry(_) => None,
     }
 }
 

@@ -1,15 +1,16 @@
 //! The instructions of outside calls, found with what their names lead to.
-ghost use Rattle.std.specs.Prelude.{◌≡◌};
+ghost use Rattle.std.specs.Prelude.{◌&&◌};
 ghost use Rattle.clif_calls.specs.Outside.{operands_of};
 ghost use Rattle.clif_resolution.specs.Answers.{Finds, AnswersExist, all_values};
-ghost use Rattle.clif_resolution.specs.Callings.{IsOutsideShape, can_call, outside_shape};
+ghost use Rattle.clif_resolution.specs.Callings.{IsOutsideShape, can_call, has_called};
 
 use crate::answers::{Answer, CallError};
 use crate::conditions::has_current;
+use crate::entries::{function_named, signature_named};
 use crate::names::values_named;
 use clif_builder::FunctionBuilder;
 use clif_calls::OutsideCall;
-use clif_ir::{Function, InstructionData, ValueList};
+use clif_ir::{Function, InstructionData};
 
 /// The instruction of an outside call, where it may be made.
 ///
@@ -43,25 +44,23 @@ fn shaped(
 ) -> Result<InstructionData, CallError>
     requires { AnswersExist func.now answers.now }
     ensures { Finds (IsOutsideShape func.now answers.now called.now)
-        (all_values func.now answers.now (operands_of called.now)) result }
+        (has_called answers.now called.now
+        && all_values func.now answers.now (operands_of called.now)) result }
 {
     let names = called.operands(func.allocator())?;
     let args = values_named(func, answers, names.as_slice())?;
-    Ok(with_values(called, args))
-}
-
-// The instruction of an outside call, with these values.
-fn with_values(called: &OutsideCall, args: ValueList) -> InstructionData
-    ensures { result ≡ outside_shape called.now args }
-{
     match called {
-        OutsideCall::Call { function, .. } => InstructionData::Call {
-            func_ref: *function,
-            args,
-        },
-        OutsideCall::CallIndirect { signature, .. } => InstructionData::CallIndirect {
-            sig_ref: *signature,
-            args,
-        },
+        OutsideCall::Call { function, .. } => {
+            let Some(func_ref) = function_named(answers, *function) else {
+                return Err(CallError::Misuse);
+            };
+            Ok(InstructionData::Call { func_ref, args })
+        }
+        OutsideCall::CallIndirect { signature, .. } => {
+            let Some(sig_ref) = signature_named(answers, *signature) else {
+                return Err(CallError::Misuse);
+            };
+            Ok(InstructionData::CallIndirect { sig_ref, args })
+        }
     }
 }

@@ -4,10 +4,12 @@ ghost use Rattle.clif_ir.specs.Body.{value_at};
 ghost use Rattle.clif_instructions.specs.Instruction.{operands};
 ghost use Rattle.clif_meaning.specs.Acceptance.{can_operate};
 ghost use Rattle.clif_resolution.specs.Answers.{Finds, AnswersExist};
+ghost use Rattle.clif_resolution.specs.Entries.{Numbers};
 ghost use Rattle.clif_resolution.specs.Plans.{FindsPlan, IsPlanned, ValuesExist, can_make, operation_in};
 
 use crate::answers::{Answer, CallError};
 use crate::conditions::has_current;
+use crate::entries::stack_slot_named;
 use crate::names::{edge_named, one_value, three_values, two_edges, two_values, values_named};
 use clif_builder::FunctionBuilder;
 use clif_calls::{Edge, Name, Plan};
@@ -16,7 +18,7 @@ use clif_opcodes::{
     BinaryOpcode, CondTrapOpcode, ConvertOpcode, Demand, FloatConstOpcode, Opcode, StackOpcode,
     UnaryOpcode,
 };
-use clif_types::{IntCC, MemFlagsData, StackSlot, TrapCode, Type, Value};
+use clif_types::{IntCC, MemFlagsData, TrapCode, Type, Value};
 
 /// An instruction, before it is made: its shape and its controlling type.
 #[derive(Drop)]
@@ -57,7 +59,7 @@ pub fn plan_found(
 
 // Whether what the instruction does may be done at this type.
 fn can_operate(plan: &Plan<'_>, ty: Type) -> bool
-    ensures { result ≡ can_operate (operation_in plan.now) ty }
+    ensures { (numbers : Numbers) → result ≡ can_operate (operation_in numbers plan.now) ty }
 {
     match plan {
         Plan::UnaryImm { .. } => ty.is_int(),
@@ -109,7 +111,7 @@ fn shaped(
             ty,
             slot,
             offset,
-        } => Ok(at_slot(*opcode, *ty, *slot, *offset)),
+        } => at_slot(builder, answers, *opcode, *ty, *slot, *offset),
         Plan::StackStore { arg, slot, offset } => {
             stack_store(builder, answers, *arg, *slot, *offset)
         }
@@ -275,15 +277,27 @@ fn store(
 }
 
 // The address of a stack slot, or a load from it, which are made at a type that is given.
-fn at_slot(opcode: StackOpcode, ty: Type, slot: StackSlot, offset: i32) -> Planned
-    ensures { result ≡ record { shape = InstructionData.StackLoad opcode slot offset; ty = ty } }
+fn at_slot(
+    builder: &FunctionBuilder<'_>,
+    answers: &[Answer],
+    opcode: StackOpcode,
+    ty: Type,
+    name: Name,
+    offset: i32,
+) -> Result<Planned, CallError>
+    requires answers { AnswersExist builder.now.func.now answers.now }
+    requires values { ValuesExist builder.now answers.now }
+    ensures { FindsPlan builder.now answers.now (Plan.StackLoad opcode ty name offset) result }
 {
+    let Some(slot) = stack_slot_named(answers, name) else {
+        return Err(CallError::Misuse);
+    };
     let shape = InstructionData::StackLoad {
         opcode,
         slot,
         offset,
     };
-    given(shape, ty)
+    Ok(given(shape, ty))
 }
 
 // A store of a value into a stack slot.
@@ -291,13 +305,16 @@ fn stack_store(
     builder: &FunctionBuilder<'_>,
     answers: &[Answer],
     arg: Name,
-    slot: StackSlot,
+    name: Name,
     offset: i32,
 ) -> Result<Planned, CallError>
     requires answers { AnswersExist builder.now.func.now answers.now }
     requires values { ValuesExist builder.now answers.now }
-    ensures { FindsPlan builder.now answers.now (Plan.StackStore arg slot offset) result }
+    ensures { FindsPlan builder.now answers.now (Plan.StackStore arg name offset) result }
 {
+    let Some(slot) = stack_slot_named(answers, name) else {
+        return Err(CallError::Misuse);
+    };
     let arg = one_value(builder.func(), answers, arg)?;
     Ok(untyped(InstructionData::StackStore { arg, slot, offset }))
 }

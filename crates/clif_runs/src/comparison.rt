@@ -5,11 +5,11 @@ use crate::options::Options;
 use crate::shown::Shown;
 use crate::table::Answers;
 use crate::trace::{Numbering, Trace};
-use clif_calls::{Call, OutsideAnswer};
+use clif_calls::{Call, EntryCall, Moves, OutsideAnswer};
 use clif_interpreter::{function, script};
 use clif_ir::Function;
 use clif_types::{AbiParam, PointerWidth, Signature};
-use clif_worlds::{End, Ending, Memory, RunError, World};
+use clif_worlds::{Beside, Collector, End, Ending, Memory, Mover, RunError, World};
 use std::alloc::{AllocError, Global};
 use std::fmt;
 
@@ -27,8 +27,10 @@ const SLOTS: u64 = 0x8000;
 pub struct Given<'a> {
     /// The bits of the arguments.
     pub arguments: &'a [u128],
-    /// What outside calls return. What isn't named returns zeros.
+    /// How outside calls end. What isn't named returns zeros.
     pub answers: &'a [OutsideAnswer],
+    /// How a collector moves, if it moves anything.
+    pub moves: Option<Moves>,
     /// The width of a pointer.
     pub pointer_width: PointerWidth,
     /// How they are made.
@@ -49,7 +51,8 @@ pub struct Comparison {
 /// How two runs compare. It prints as `the runs differ`.
 #[derive(Clone, Copy)]
 pub enum Verdict {
-    /// They show the same outside calls, and end with the same values or trap, and the same memory.
+    /// They show the same outside calls, and end with the same values or trap, and the same memory outside the stack slots in which
+    /// the function keeps what moves.
     Equal,
     /// One of them hasn't ended within this bound on steps.
     Unknown(u64),
@@ -96,14 +99,15 @@ fn first_memory(alloc: Global) -> Result<Memory, AllocError> {
     Ok(memory)
 }
 
-/// Runs a script and its function on the same.
+/// Runs a script and its function on the same. At an outside call the collector moves the marked variables and the tracked names of
+/// the script, and of the function what lies in the slots that the call's stack map names.
 ///
 /// The bytes from address 0x1000 up to 0xffff are accessible, and no others. Each is the low byte of its address at
 /// first. Stack slots lie from 0x8000 on, in order, each at the next address that its alignment allows.
 ///
 /// # Errors
 ///
-/// Those of [`script::run`].
+/// Those of [`script::run_beside`], and where a stack slot of the function has no place.
 pub fn compare(
     alloc: Global,
     calls: &[Call],
@@ -124,13 +128,36 @@ pub fn compare(
         is_traced: given.options.is_traced,
     };
     let steps = given.options.steps;
-    let script = script::run(alloc, calls, signature, &world, steps)?;
-    let function = function::run(alloc, func, &world, steps);
+    let hidden = function::slots_behind(alloc, func, &world, slot_count(calls))?;
+    let beside = Beside {
+        mover: given.moves.map(Mover::of),
+        hidden: hidden.as_slice(),
+    };
+    let collector = match beside.mover {
+        Some(mover) => Collector::ByMaps(mover),
+        None => Collector::Nothing,
+    };
+    let script = script::run_beside(alloc, calls, signature, &world, &beside, steps)?;
+    let function = match function::run_collected(alloc, func, &world, collector, steps) {
+        Ok((ending, _)) => Ok(ending),
+        Err(error) => Err(error),
+    };
     Ok(Comparison {
         script,
         function,
         steps,
     })
+}
+
+// How many stack slots calls make.
+fn slot_count(calls: &[Call]) -> usize {
+    let mut count = 0usize;
+    for call in calls {
+        if let Call::Entry(EntryCall::CreateSizedStackSlot { .. }) = call {
+            count = count.saturating_add(1);
+        }
+    }
+    count
 }
 
 impl Comparison {
@@ -214,22 +241,12 @@ fn compared(script: &Ending, function: &Ending) -> Verdict {
     if script.end != function.end || script.events != function.events {
         return Verdict::Differ;
     }
-    match first_difference(script.memory.bytes(), function.memory.bytes()) {
-        Some(place) => Verdict::DifferInMemory(START.saturating_add(place as u64)),
+    match script.memory.first_difference(&function.memory) {
+        Some(address) => Verdict::DifferInMemory(address),
         None => Verdict::Equal,
     }
 }
 
 fn is_out_of_steps(end: &End) -> bool {
     matches!(end, End::OutOfSteps)
-}
-
-// The first place at which two lists of bytes differ.
-fn first_difference(left: &[u8], right: &[u8]) -> Option<usize> {
-    for (place, (a, b)) in left.iter().zip(right.iter()).enumerate() {
-        if *a != *b {
-            return Some(place);
-        }
-    }
-    None
 }

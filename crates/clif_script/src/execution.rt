@@ -23,12 +23,13 @@ use std::{io, str};
 ///
 /// The bytes from address 0x1000 up to 0xffff are accessible, and no others. Each is the low byte of its address at
 /// first. Stack slots lie from 0x8000 on, in order, each at the next address that its alignment allows. Outside calls
-/// return what the script's `answer` lines say, zeros where none says it, and leave memory as it is.
+/// end as the script's lines `answer` and `throw` say, return zeros where none says it, and leave memory as it is. By a line
+/// `moves` they move the script's marked variables and tracked names, and of the function what the call's stack map names.
 ///
 /// | Status | When |
 /// |---|---|
-/// | 0 | both runs end with the same values or trap, and the same memory |
-/// | 1 | the function couldn't be built, and `err` has the reason, as [`crate::build`] tells it; or this can't be run: memory or a write was refused, a value has more than 128 bits, or the stack slots don't fit into memory |
+/// | 0 | both runs end with the same values or trap, and the same memory outside the stack slots that only the function has |
+/// | 1 | the function couldn't be built, and `err` has the reason, as [`crate::build`] tells it; or this can't be run: memory or a write was refused, a value has more than 128 bits, the stack slots don't fit into memory, or a call throws to an item that it doesn't have |
 /// | 2 | the bytes are no script, or the words aren't the function's arguments, and `err` has the reason |
 /// | 3 | the runs differ, and `err` says so |
 /// | 4 | the theorem promises nothing of this run, and `err` has the reason, as `the promise doesn't cover this: $4.1 is used before it is given`, and then the line of the call |
@@ -171,6 +172,7 @@ fn both_run(
     let given = Given {
         arguments,
         answers: script.answers.as_slice(),
+        moves: script.moves,
         pointer_width: config.pointer_width,
         options,
     };

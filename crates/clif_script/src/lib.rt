@@ -8,6 +8,7 @@ mod helper_rows;
 mod program;
 mod row_texts;
 mod rows;
+mod stack_map_rows;
 
 pub use clif_calls::{
     Call, Edge, EntryCall, MemoryCall, Name, OutsideAnswer, OutsideCall, Passed, PlainInstruction,

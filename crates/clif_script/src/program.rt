@@ -185,6 +185,7 @@ fn build_script<O: io::Write, E: io::Write>(
         signature,
         config,
         answers: _,
+        moves: _,
         calls,
         lines,
     } = script;

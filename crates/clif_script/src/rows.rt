@@ -1,6 +1,6 @@
 //! The rows: scripts that stand in this crate, and the program `rows` that builds their functions, over two writers.
 ghost use Rattle.std.specs.Prelude.{◌≡◌, ◌<◌, ◌↔◌, length, string_bytes, slice_get, IfOk, IfSome, IsSome};
-ghost use Rattle.clif_script.specs.Rows.{IsHelperRow, IsOtherRow, IsRowName, IsSwitchRow};
+ghost use Rattle.clif_script.specs.Rows.{IsHelperRow, IsOtherRow, IsRowName, IsStackMapRow, IsSwitchRow};
 
 use crate::helper_rows::{COPY12, COPY40, MEMCMP_ODD, MEMCPY};
 use crate::program::{Form, Printing, TypeCheck, build_text};
@@ -8,6 +8,7 @@ use crate::row_texts::{
     BOTH_ARMS, CHANGE_BOTH, CHANGE_ONE, EMPTY, FIRST, REORDERING, SAMPLE, SAMPLE_LATE,
     SWITCH_128BIT_MAX_U64, SWITCH_BORDER, SWITCH_HIGH, SWITCH_MANY, UNDEF_VECTORS,
 };
+use crate::stack_map_rows::{IRREDUCIBLE, LOOP, SLOT_REUSE, TRY_CALL, ZERO_MARKED};
 use std::alloc::Global;
 use std::io;
 
@@ -18,7 +19,7 @@ const AS_TEXT: Printing = Printing {
 };
 
 // The names of the rows, in order.
-const NAMES: [&str; 17] = [
+const NAMES: [&str; 22] = [
     "first",
     "memcpy",
     "reordering",
@@ -32,6 +33,11 @@ const NAMES: [&str; 17] = [
     "switch_border",
     "copy12",
     "copy40",
+    "slot_reuse",
+    "loop",
+    "irreducible",
+    "try_call",
+    "zero_marked",
     "memcmp_odd",
     "change_both",
     "change_one",
@@ -44,7 +50,7 @@ pub fn row_text(name: &str) -> Option<&'static str>
 {
     match switch_row_text(name).or(helper_row_text(name)) {
         Some(text) => Some(text),
-        None => other_row_text(name),
+        None => stack_map_row_text(name).or(other_row_text(name)),
     }
 }
 
@@ -70,6 +76,20 @@ fn helper_row_text(name: &str) -> Option<&'static str>
         "copy12" => Some(COPY12),
         "copy40" => Some(COPY40),
         "memcmp_odd" => Some(MEMCMP_ODD),
+        _ => None,
+    }
+}
+
+// That of a row that asks for stack maps.
+fn stack_map_row_text(name: &str) -> Option<&'static str>
+    ensures { IsSome result ↔ IsStackMapRow name.now }
+{
+    match name {
+        "slot_reuse" => Some(SLOT_REUSE),
+        "loop" => Some(LOOP),
+        "irreducible" => Some(IRREDUCIBLE),
+        "try_call" => Some(TRY_CALL),
+        "zero_marked" => Some(ZERO_MARKED),
         _ => None,
     }
 }

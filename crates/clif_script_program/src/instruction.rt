@@ -1,14 +1,16 @@
 //! The instructions of scripts, by their parts.
+use crate::entries::{JumpEdges, edge_named, edges_served};
 use clif_access_plans::{ComparePlan, MovePlan, plan_compare, plan_move};
-use clif_calls::{
-    Call, Edge, ImmediateCall, MemoryCall, Name, Plan, SwitchEntry, TableEdge, is_unsigned,
-};
+use clif_calls::{Call, Edge, ImmediateCall, MemoryCall, Name, Plan, SwitchEntry, is_unsigned};
 use clif_opcodes::PooledConstOpcode;
 use clif_operations::arithmetic::bits_of_bytes;
 use clif_operations::{ByteOperation, Operation, Promise, WithConstant};
-use clif_types::{IntCC, JumpTable, MemFlagsData, Type};
+use clif_types::{EntityRef, IntCC, MemFlagsData, StackSlot, Type};
 use std::alloc::{AllocError, Global};
 use std::slice;
+
+// How many stack slots there can be.
+const MOST_SLOTS: usize = 0xffff_ffff;
 
 /// An instruction of a script: what it does, the type that is given with it, and its operands.
 #[derive(Drop)]
@@ -21,8 +23,8 @@ pub struct Instruction<'p> {
     pub operands: &'p [Name],
 }
 
-/// An instruction by its format: a row for each.
-pub fn instruction_of<'p>(plan: &'p Plan<'_>) -> Instruction<'p> {
+/// An instruction by its format, a row for each, where the calls at these places answered entries with these numbers.
+pub fn instruction_of<'p>(plan: &'p Plan<'_>, numbers: &[Option<usize>]) -> Instruction<'p> {
     let none: &'p [Name] = &[];
     let (operation, given, operands): (Operation, Type, &'p [Name]) = match plan {
         Plan::UnaryImm { ty, imm } => (Operation::Iconst(*imm), *ty, none),
@@ -67,7 +69,7 @@ pub fn instruction_of<'p>(plan: &'p Plan<'_>) -> Instruction<'p> {
             slot,
             offset,
         } => {
-            let (opcode, slot, offset) = (*opcode, *slot, *offset);
+            let (opcode, slot, offset) = (*opcode, slot_at(numbers, *slot), *offset);
             (
                 Operation::Stack {
                     opcode,
@@ -79,7 +81,7 @@ pub fn instruction_of<'p>(plan: &'p Plan<'_>) -> Instruction<'p> {
             )
         }
         Plan::StackStore { arg, slot, offset } => {
-            let (slot, offset) = (*slot, *offset);
+            let (slot, offset) = (slot_at(numbers, *slot), *offset);
             (
                 Operation::StackStore { slot, offset },
                 Type::Invalid,
@@ -105,6 +107,14 @@ pub fn instruction_of<'p>(plan: &'p Plan<'_>) -> Instruction<'p> {
     }
 }
 
+// The stack slot that a name leads to; the first one where it leads to none.
+fn slot_at(numbers: &[Option<usize>], name: Name) -> StackSlot {
+    match numbers.get(name.place) {
+        Some(Some(number)) if *number < MOST_SLOTS => StackSlot::new(*number),
+        _ => StackSlot::new(0),
+    }
+}
+
 /// Where the edges of an instruction are: nowhere if it has none.
 #[derive(Clone, Copy)]
 pub enum Edges<'p, 'a> {
@@ -113,7 +123,7 @@ pub enum Edges<'p, 'a> {
     /// In the instruction itself.
     Own(&'p Plan<'a>),
     /// In this jump table.
-    Table(JumpTable),
+    Table(JumpEdges<'a>),
 }
 
 /// The branch by a jump table with so many edges, the default included.
@@ -270,7 +280,7 @@ pub fn result_count(call: &Call) -> usize {
     let Some(plan) = plan_of(call) else {
         return 0;
     };
-    let operation = instruction_of(&plan).operation;
+    let operation = instruction_of(&plan, &[]).operation;
     operation.opcode().typing().results.len()
 }
 
@@ -293,8 +303,7 @@ pub fn edge_of<'a>(plan: &Plan<'a>, number: usize) -> Option<&'a Edge> {
     }
 }
 
-/// Where the edges of the instruction of a call lead, in order; those of one that a table serves are of the calls at
-/// these places.
+/// Where the edges of the instruction of a call lead, in order; of one that a table serves, those of the table.
 ///
 /// # Errors
 ///
@@ -303,9 +312,7 @@ pub fn targets_of(
     alloc: Global,
     calls: &[Call],
     call: &Call,
-    places: &[usize],
 ) -> Result<Vec<Option<Name>>, AllocError> {
-    let mut targets = tabled_targets(alloc, calls, places)?;
     if let Call::Switch {
         entries,
         otherwise,
@@ -314,23 +321,14 @@ pub fn targets_of(
     {
         return switched_targets(alloc, entries.as_slice(), *otherwise);
     }
+    let mut targets = Vec::new(alloc);
+    for edge in edges_served(alloc, calls, call)?.iter() {
+        targets.push(edge_named(calls, *edge).map(|edge| edge.block))?;
+    }
     if let Some(plan) = plan_of(call) {
         for number in 0..edge_count(&plan) {
             targets.push(edge_of(&plan, number).map(|edge| edge.block))?;
         }
-    }
-    Ok(targets)
-}
-
-// Where the edges lead that the calls at these places answer.
-fn tabled_targets(
-    alloc: Global,
-    calls: &[Call],
-    places: &[usize],
-) -> Result<Vec<Option<Name>>, AllocError> {
-    let mut targets = Vec::new(alloc);
-    for place in places {
-        targets.push(edge_made(calls, *place).map(|edge| edge.block))?;
     }
     Ok(targets)
 }
@@ -347,12 +345,4 @@ fn switched_targets(
     }
     targets.push(Some(otherwise))?;
     Ok(targets)
-}
-
-/// The edge that the call at a place answers.
-pub fn edge_made(calls: &[Call], place: usize) -> Option<&TableEdge> {
-    match calls.get(place)? {
-        Call::BlockCall { edge } => Some(edge),
-        _ => None,
-    }
 }

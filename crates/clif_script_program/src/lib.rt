@@ -4,8 +4,8 @@
 #![tactic(auto)]
 
 pub mod branches;
-pub mod exceptions;
-pub mod imports;
+pub mod entries;
 pub mod instruction;
 pub mod program;
 pub mod switches;
+pub mod tracking;

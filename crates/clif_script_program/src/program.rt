@@ -1,11 +1,11 @@
 //! The variable program of a script: for each block the calls that run in it, in order, and the caller's parameters.
 use crate::branches::Branches;
-use crate::exceptions::{ExceptionTables, Exceptions};
-use crate::imports::Imports;
-use crate::instruction::{edge_made, result_count, targets_of};
+use crate::entries::called_by;
+use crate::instruction::{result_count, targets_of};
 use crate::switches::Switches;
-use clif_calls::{Call, EntryCall, MemoryCall, Name, SwitchEntry, TableEdge, table_count};
-use clif_types::{AbiParam, EntityRef, ExceptionTable, JumpTable, PointerWidth, Signature, Type};
+use crate::tracking::Tracking;
+use clif_calls::{Call, EntryCall, MemoryCall, Name, SwitchEntry};
+use clif_types::{AbiParam, Signature, Type};
 use std::alloc::{AllocError, Global};
 
 /// A block of a variable program.
@@ -33,8 +33,8 @@ impl Drop for ProgramBlock {
 pub struct Program {
     alloc: Global,
     current: Option<usize>,
-    // for each call the number of the block that it answered
-    numbers: Vec<Option<usize>>,
+    /// For each call the number of the block, the stack slot or the signature that it answered.
+    pub numbers: Vec<Option<usize>>,
     /// The blocks, in the order of the calls that made them.
     pub blocks: Vec<ProgramBlock>,
     /// The block that was current at the first call that put one into the layout.
@@ -43,17 +43,15 @@ pub struct Program {
     pub variables: Vec<Type>,
     /// The size of each stack slot, and the shift of its alignment.
     pub slots: Vec<(u32, u8)>,
-    // for each jump table the places of the calls that answered its edges, the default first; those of switches have none
-    tables: Vec<Vec<usize>>,
-    /// The exception tables.
-    pub exceptions: ExceptionTables,
+    // how many signatures there are
+    signatures: usize,
     branches: Branches,
     /// The switches.
     pub switches: Switches,
-    /// The signatures and functions that the script imports.
-    pub imports: Imports,
     /// For each call how many answers it has. What is no value is never given.
     pub answers: Vec<usize>,
+    /// What a collector moves.
+    pub tracking: Tracking,
 }
 
 // By hand: a derived one is proved anew at each way out of a function that holds such a value.
@@ -67,28 +65,22 @@ impl Drop for Program {
             entry: _,
             variables: _,
             slots: _,
-            tables: _,
-            exceptions: _,
+            signatures: _,
             branches: _,
             switches: _,
-            imports: _,
             answers: _,
+            tracking: _,
         } = self;
     }
 }
 
 impl Program {
-    /// The variable program of these calls, for a function of this signature and pointers of this width.
+    /// The variable program of these calls, for a function of this signature.
     ///
     /// # Errors
     ///
     /// `AllocError`, where memory is refused.
-    pub fn of(
-        alloc: Global,
-        calls: &[Call],
-        signature: &Signature,
-        pointer_width: PointerWidth,
-    ) -> Result<Program, AllocError> {
+    pub fn of(alloc: Global, calls: &[Call], signature: &Signature) -> Result<Program, AllocError> {
         let mut program = Program {
             alloc,
             current: None,
@@ -97,23 +89,23 @@ impl Program {
             entry: None,
             variables: Vec::new(alloc),
             slots: Vec::new(alloc),
-            tables: Vec::new(alloc),
-            exceptions: ExceptionTables::new(alloc),
+            signatures: 0,
             branches: Branches::new(alloc),
             switches: Switches::new(alloc),
-            imports: Imports::new(alloc, pointer_width),
             answers: Vec::new(alloc),
+            tracking: Tracking::new(alloc),
         };
         for (place, call) in calls.iter().enumerate() {
-            let answers = program.answer_count(call, signature);
+            let answers = answer_count(calls, call, signature);
             program.answers.push(answers)?;
             program.add_branch(calls, call)?;
             program.add(place, call, signature)?;
         }
+        program.tracking = Tracking::of(alloc, calls, program.answers.as_slice())?;
         Ok(program)
     }
 
-    /// The number of the block that a name leads to.
+    /// The number of the block, the stack slot or the signature that a name leads to.
     pub fn number(&self, block: Name) -> Option<usize> {
         if block.answer != 0 {
             return None;
@@ -131,54 +123,6 @@ impl Program {
         self.block(number)?.items.get(index).copied()
     }
 
-    /// How many edges a jump table has, the default included; none if it wasn't made.
-    pub fn table_len(&self, table: JumpTable) -> usize {
-        match self.tables.get(table.index()) {
-            Some(places) => places.len(),
-            None => 0,
-        }
-    }
-
-    /// The edge of a jump table with this number, the default first, in the calls of the script.
-    pub fn table_edge<'c>(
-        &self,
-        calls: &'c [Call],
-        table: JumpTable,
-        number: usize,
-    ) -> Option<&'c TableEdge> {
-        let place = self.tables.get(table.index())?.get(number)?;
-        edge_made(calls, *place)
-    }
-
-    /// The edge of an exception table with this number, the normal one first, in the calls of the script.
-    pub fn exception_edge<'c>(
-        &self,
-        calls: &'c [Call],
-        table: ExceptionTable,
-        number: usize,
-    ) -> Option<&'c TableEdge> {
-        let place = self.exceptions.edges(table).get(number)?;
-        edge_made(calls, *place)
-    }
-
-    /// The signature by which an exception table has its call made.
-    pub fn exception_signature(&self, table: ExceptionTable) -> Option<&Signature> {
-        self.imports
-            .signature(self.exceptions.get(table)?.signature)
-    }
-
-    // The places of the calls that answered the edges of the table that serves a call's instruction.
-    fn served_by(&self, call: &Call) -> &[usize] {
-        match call {
-            Call::BrTable { table, .. } => match self.tables.get(table.index()) {
-                Some(places) => places.as_slice(),
-                None => &[],
-            },
-            Call::Throwing(called) => self.exceptions.edges(called.table()),
-            _ => &[],
-        }
-    }
-
     /// The numbers of the blocks that the edges of the call at a place lead to, in order, once all calls were made; none
     /// where a name leads to no block.
     pub fn targets(&self, place: usize) -> &[Option<usize>] {
@@ -192,7 +136,7 @@ impl Program {
 
     // Adds where the edges of a call lead.
     fn add_branch(&mut self, calls: &[Call], call: &Call) -> Result<(), AllocError> {
-        let blocks = targets_of(self.alloc, calls, call, self.served_by(call))?;
+        let blocks = targets_of(self.alloc, calls, call)?;
         let mut targets = Vec::new(self.alloc);
         for block in blocks.iter() {
             let target = match block {
@@ -234,7 +178,12 @@ impl Program {
             Call::Entry(EntryCall::CreateSizedStackSlot { size, align_shift }) => {
                 Ok(self.slots.push((*size, *align_shift))?)
             }
-            Call::Entry(entry) => self.imports.add(entry),
+            Call::Entry(entry) => {
+                if matches!(entry, EntryCall::ImportSignature(_)) {
+                    self.signatures = self.signatures.saturating_add(1);
+                }
+                Ok(())
+            }
             Call::EnsureInsertedBlock => {
                 self.put_into_layout();
                 Ok(())
@@ -252,18 +201,6 @@ impl Program {
                 self.add_item(place, false)
             }
             Call::Memory(called) => self.add_helper(place, called),
-            Call::CreateJumpTable { default, entries } => {
-                self.add_table(*default, entries.as_slice())
-            }
-            Call::CreateExceptionTable {
-                signature,
-                normal,
-                items,
-            } => {
-                let (alloc, items) = (self.alloc, items.as_slice());
-                let table = Exceptions::new(alloc, *signature, *normal, items)?;
-                self.exceptions.push(table)
-            }
             Call::Jump { .. }
             | Call::Brif { .. }
             | Call::BrTable { .. }
@@ -285,14 +222,20 @@ impl Program {
             | Call::SetSrcloc { .. }
             | Call::CollectDebugInfo
             | Call::SetValLabel { .. }
-            | Call::BlockCall { .. } => Ok(()),
+            | Call::DeclareVarNeedsStackMap { .. }
+            | Call::DeclareValueNeedsStackMap { .. }
+            | Call::BlockCall { .. }
+            | Call::CreateJumpTable { .. }
+            | Call::CreateExceptionTable { .. } => Ok(()),
         }
     }
 
-    // The number of the block that a call answers.
+    // The number of the block, the stack slot or the signature that a call answers.
     fn number_answered(&self, call: &Call) -> Option<usize> {
         match call {
             Call::CreateBlock => Some(self.blocks.len()),
+            Call::Entry(EntryCall::CreateSizedStackSlot { .. }) => Some(self.slots.len()),
+            Call::Entry(EntryCall::ImportSignature(_)) => Some(self.signatures),
             _ => None,
         }
     }
@@ -307,35 +250,24 @@ impl Program {
         Ok(())
     }
 
-    // Adds a jump table of the edges with these names.
-    fn add_table(&mut self, default: Name, entries: &[Name]) -> Result<(), AllocError> {
-        let mut places = Vec::new(self.alloc);
-        places.push(default.place)?;
-        for entry in entries {
-            places.push(entry.place)?;
-        }
-        self.tables.push(places)?;
-        Ok(())
-    }
-
-    // Adds the switch at a place, behind which no block is current. It makes jump tables that no call names.
+    // Adds the switch at a place, behind which no block is current.
     fn add_switch(&mut self, place: usize, entries: &[SwitchEntry]) -> Result<(), AllocError> {
         self.switches.add(place, entries)?;
-        for _ in 0..table_count(self.alloc, entries)? {
-            self.tables.push(Vec::new(self.alloc))?;
-        }
         self.put_into_layout();
         self.add_item(place, true)?;
         self.current = None;
         Ok(())
     }
 
-    // Adds the memory helper at a place. Where no bytes are copied or filled, nothing is made.
+    // Adds the memory helper at a place, which imports a signature if it calls the C library. Where no bytes are copied or filled,
+    // nothing is made.
     fn add_helper(&mut self, place: usize, called: &MemoryCall) -> Result<(), AllocError> {
         if called.is_nothing() {
             return Ok(());
         }
-        self.imports.add_called(called)?;
+        if called.called_function().is_some() {
+            self.signatures = self.signatures.saturating_add(1);
+        }
         self.put_into_layout();
         self.add_item(place, false)
     }
@@ -380,24 +312,24 @@ impl Program {
         block.is_filled = fills;
         Ok(())
     }
+}
 
-    // How many answers a call has: an instruction answers itself and then its results.
-    fn answer_count(&self, call: &Call, signature: &Signature) -> usize {
-        match call {
-            Call::AppendBlockParamsForFunctionParams { .. } => signature.params.len(),
-            Call::AppendBlockParamsForFunctionReturns { .. } => signature.returns.len(),
-            Call::Plain(_) | Call::Cursor(_) => result_count(call).saturating_add(1),
-            Call::Outside(called) => match self.imports.called_by(called) {
-                Some(signature) => signature.returns.len().saturating_add(1),
-                None => 1,
-            },
-            Call::F128const { .. } | Call::Vconst { .. } => 2,
-            Call::Memory(called) => usize::from(called.result().is_some()),
-            Call::AppendBlockParam { .. }
-            | Call::UseVar { .. }
-            | Call::TryUseVar { .. }
-            | Call::Immediate(_) => 1,
-            _ => 0,
-        }
+// How many answers a call has: an instruction answers itself and then its results.
+fn answer_count(calls: &[Call], call: &Call, signature: &Signature) -> usize {
+    match call {
+        Call::AppendBlockParamsForFunctionParams { .. } => signature.params.len(),
+        Call::AppendBlockParamsForFunctionReturns { .. } => signature.returns.len(),
+        Call::Plain(_) | Call::Cursor(_) => result_count(call).saturating_add(1),
+        Call::Outside(called) => match called_by(calls, called) {
+            Some(signature) => signature.returns.len().saturating_add(1),
+            None => 1,
+        },
+        Call::F128const { .. } | Call::Vconst { .. } => 2,
+        Call::Memory(called) => usize::from(called.result().is_some()),
+        Call::AppendBlockParam { .. }
+        | Call::UseVar { .. }
+        | Call::TryUseVar { .. }
+        | Call::Immediate(_) => 1,
+        _ => 0,
     }
 }

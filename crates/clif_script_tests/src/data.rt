@@ -221,7 +221,7 @@ at = stack_addr.i64 large 8
 store x at 4
 half = stack_load.i16 large +12
 y = uextend.i32 half
-z = stack_load.i32 ss0
+z = stack_load.i32 small
 sum = iadd y z
 seal_block b
 next = create_block

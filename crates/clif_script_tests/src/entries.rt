@@ -12,7 +12,7 @@ create_global_value symbol %name
 create_global_value symbol u1:2
 t = import_signature () fast
 import_function colocated patchable u0:1 t
-import_function colocated %Memcpy sig0
+import_function colocated %Memcpy s
 import_function patchable %f $7.0
 b = create_block
 switch_to_block b
@@ -25,16 +25,16 @@ function u0:0 () fast
 pointer 64
 conv system_v
 import_signature (i64, i64, i64) -> i64 system_v
-import_function libcall Memcpy sig0
+import_function libcall Memcpy $0.0
 create_sized_stack_slot 4 2
 create_dynamic_stack_slot 16
 create_global_value vmctx
 create_global_value symbol %name
 create_global_value symbol u1:2
 import_signature () fast
-import_function colocated patchable u0:1 sig1
-import_function colocated %Memcpy sig0
-import_function patchable %f sig1
+import_function colocated patchable u0:1 $7.0
+import_function colocated %Memcpy $0.0
+import_function patchable %f $7.0
 create_block
 switch_to_block $11.0
 return

@@ -50,7 +50,7 @@ emit_small_memory_compare slt $0.0 $4.0 0 16 1
 ",
 );
 
-/// Signatures and functions are numbered behind those that helpers before them import, one of each for a call of the C library.
+/// Signatures and functions are named by their lines, whatever helpers between them import.
 pub const LATER_IMPORTS: (&str, &[&str]) = (
     "\
 p = append_block_param $0.0 i64
@@ -73,11 +73,11 @@ u = import_signature () fast
 call_indirect u p ()
 ",
     &[
-        "import_function %f sig0\n",
-        "import_function %g sig2\n",
-        "call fn1()\n",
-        "call fn5()\n",
-        "call_indirect sig2 $0.0()\n",
-        "call_indirect sig6 $0.0()\n",
+        "import_function %f $1.0\n",
+        "import_function %g $4.0\n",
+        "call $3.0()\n",
+        "call $12.0()\n",
+        "call_indirect $4.0 $0.0()\n",
+        "call_indirect $16.0 $0.0()\n",
     ],
 );

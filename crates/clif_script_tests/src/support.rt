@@ -149,6 +149,7 @@ pub fn function_of(alloc: Global, text: &str) -> Result<Function, Fail> {
         signature,
         config,
         answers: _,
+        moves: _,
         calls,
         lines: _,
     } = script_of(alloc, text)?;

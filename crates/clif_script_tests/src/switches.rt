@@ -37,7 +37,7 @@ switch $3.1 $1.0 340282366920938463463374607431768211455:$0.0 0:$0.0
 ",
 );
 
-/// Jump tables are numbered behind those of switches before them, each of which has one for every range of several keys.
+/// Jump tables are named by their lines, whatever tables switches between them make.
 pub const LATER_TABLES: (&str, &[&str]) = (
     "\
 b = create_block
@@ -54,12 +54,10 @@ br_table x first
 switch x c
 third = create_jump_table to_b
 br_table x third
-br_table x jt2
 ",
     &[
-        "br_table $2.0 jt3\n",
-        "br_table $2.0 jt0\n",
-        "br_table $2.0 jt4\n",
-        "br_table $2.0 jt2\n",
+        "br_table $2.0 $7.0\n",
+        "br_table $2.0 $4.0\n",
+        "br_table $2.0 $12.0\n",
     ],
 );

@@ -79,8 +79,8 @@ import_signature () fast
 create_block
 append_block_param $1.0 i64
 block_call $1.0( $2.0 exn0 exn1)
-create_exception_table sig0 $3.0 context $2.0 tag7 $3.0 default $3.0
+create_exception_table $0.0 $3.0 context $2.0 tag7 $3.0 default $3.0
 switch_to_block $1.0
-try_call_indirect $2.0( $2.0) extable0
+try_call_indirect $2.0( $2.0) $4.0
 ",
 );

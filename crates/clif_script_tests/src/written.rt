@@ -213,7 +213,7 @@ t = create_sized_stack_slot 0x10, 0
 stack_addr.i64 t 8
 stack_load.f32 s
 stack_load.i8 $19.0 -1
-stack_store $1.0, ss7, +4
+stack_store $1.0, $7.0, +4
 trapz $1.0 user7
 trapnz $1.0, int_divz
 trap heap_oob
@@ -223,7 +223,7 @@ e = block_call $1.0, $2.0
 t = create_jump_table e
 t = create_jump_table $1.0, $2.0
 br_table $1.0 t
-br_table $1.0, jt7",
+br_table $1.0, $7.0",
         "\
 function u0:0 () fast
 pointer 64
@@ -248,10 +248,10 @@ store aligned $1.0 $2.0 -2147483648
 store notrap $1.0 $2.0
 create_sized_stack_slot 4 2
 create_sized_stack_slot 16 0
-stack_addr.i64 ss1 8
-stack_load.f32 ss0
-stack_load.i8 ss1 -1
-stack_store $1.0 ss7 4
+stack_addr.i64 $19.0 8
+stack_load.f32 $18.0
+stack_load.i8 $19.0 -1
+stack_store $1.0 $7.0 4
 trapz $1.0 user7
 trapnz $1.0 int_divz
 trap heap_oob
@@ -260,8 +260,8 @@ trap int_ovf
 block_call $1.0( $2.0)
 create_jump_table $29.0
 create_jump_table $1.0 $2.0
-br_table $1.0 jt1
-br_table $1.0 jt7
+br_table $1.0 $31.0
+br_table $1.0 $7.0
 ",
     ),
 ];

@@ -11,6 +11,7 @@ use Rattle.clif_meaning.specs.Headline.{IsWorldOf, MeansTheSame, function_behavi
 use Rattle.clif_meaning.specs.Premises.{Premises}
 use Rattle.clif_meaning.specs.Request.{AnsweredCall, Script, script_of}
 use Rattle.clif_meaning.specs.SameMeaning.{SameMeaning}
+use Rattle.clif_meaning.specs.Tracked.{TracksNothing}
 use Rattle.clif_meaning.specs.View.{view_of}
 use Rattle.clif_meaning.specs.World.{World}
 use Rattle.clif_calls.specs.declared.call.Call.{Call}
@@ -59,14 +60,26 @@ pub record IsReplayOf (calls : List Call) (declared : SignatureShape) (config : 
   pub same_meaning : CallsMeanTheSame (calls_of config declared calls) declared config.pointer_width (view_of f)
   pub built : IsBuiltBy config calls declared f
 
--- Two lists of calls that `replay` accepts, that emit nothing and differ only in when blocks are sealed: the functions that it
--- returns have the same meaning, in each world in which the first list meets the premises. Source: own.
+-- Two lists of calls that `replay` accepts, that emit nothing and differ only in when blocks are sealed: where the functions that
+-- it returns have the same list of slots, they have the same meaning, in each world in which the first list meets the premises.
+-- Source: own.
 abbrev pub ReplayedFunctionsAgree : Type 0
 ReplayedFunctionsAgree =
     (calls others : List Call) (declared : SignatureShape) (config : TargetFrontendConfig) (f g : Body) (world : World)
     → EmitsNothing config declared calls → EmitsNothing config declared others
     → DifferInSealing (requests_of config declared calls) (requests_of config declared others)
     → IsReplayOf calls declared config f → IsReplayOf others declared config g
+    → (view_of f).slots ≡ (view_of g).slots
     → IsWorldOf declared (view_of f) config.pointer_width world
     → Premises (requests_of config declared calls) declared (pointer_type_of config.pointer_width) (script_run (requests_of config declared calls) (view_of f) world)
     → SameMeaning (function_behaviour (requests_of config declared calls) (view_of f) world) (function_behaviour (requests_of config declared others) (view_of g) world)
+
+-- They have, where no call asks for stack maps: the slots that the calls create.
+abbrev pub ReplayedSlotsAgree : Type 0
+ReplayedSlotsAgree =
+    (calls others : List Call) (declared : SignatureShape) (config : TargetFrontendConfig) (f g : Body)
+    → EmitsNothing config declared calls → EmitsNothing config declared others
+    → DifferInSealing (requests_of config declared calls) (requests_of config declared others)
+    → TracksNothing (requests_of config declared calls) → TracksNothing (requests_of config declared others)
+    → IsReplayOf calls declared config f → IsReplayOf others declared config g
+    → (view_of f).slots ≡ (view_of g).slots

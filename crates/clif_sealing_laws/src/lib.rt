@@ -5,7 +5,7 @@
 ghost use Rattle.clif_types.specs.Signature.{SignatureShape};
 ghost use Rattle.clif_types.specs.declared.target.TargetFrontendConfig.{TargetFrontendConfig};
 ghost use Rattle.clif_sealing_laws.specs.Examples.{SealingLawExamples};
-ghost use Rattle.clif_sealing_laws.specs.Laws.{BuiltFunctionsAgree, ReplayedFunctionsAgree};
+ghost use Rattle.clif_sealing_laws.specs.Laws.{BuiltFunctionsAgree, ReplayedFunctionsAgree, ReplayedSlotsAgree};
 ghost use Rattle.clif_sealing_laws.specs.SwitchOrder.{SwitchOrderIsFree};
 
 use clif_simulation::examples::sample_meets_premises;
@@ -16,9 +16,11 @@ pub fn built_functions_agree()
     ensures { BuiltFunctionsAgree }
 {}
 
-/// So do the functions that `replay` returns for two lists of calls that differ only in when blocks are sealed.
+/// So do the functions that `replay` returns for two lists of calls that differ only in when blocks are sealed, if these functions
+/// have the same list of slots; and they have, where no call asks for stack maps.
 pub fn replayed_functions_agree()
-    ensures { ReplayedFunctionsAgree }
+    ensures agree { ReplayedFunctionsAgree }
+    ensures slots { ReplayedSlotsAgree }
 {}
 
 /// Lists of calls that differ in the order in which the entries of a switch are set are one script: all that `replay` says of

@@ -9,10 +9,8 @@ use Rattle.clif_instructions.specs.declared.block_call.BlockArg.TheVariants.{Val
 use Rattle.clif_paths.specs.Blocks.{Blocks}
 use Rattle.clif_paths.specs.BlockLaws.{BlocksSound}
 use Rattle.clif_records.specs.declared.tables.Pending.{Pending}
-use Rattle.clif_records.specs.declared.tables.Sealed.{Sealed}
-use Rattle.clif_records.specs.declared.tables.Sealed.TheVariants.{No, Yes}
+use Rattle.clif_records.specs.Tables.{No, Sealed, Yes, is_yes, pending_of}
 use Rattle.clif_ssa.specs.Own.{Own}
-use Rattle.clif_records.specs.Tables.{is_yes, pending_of}
 use Rattle.clif_ssa.specs.Ssa.{SsaState, sealed_of, predecessors_of}
 use Rattle.clif_ssa.specs.Sound.{Describes, CountsArguments, EntryIsFree, args_of, edges_at, edge_target}
 use Rattle.clif_ssa.specs.Structured.{HasParameters, Structured, VariableTypes, waiting_of}

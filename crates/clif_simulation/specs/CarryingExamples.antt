@@ -11,8 +11,7 @@ use Rattle.clif_tables.specs.Lists.{no_entries}
 use Rattle.clif_nodes.specs.declared.nodes.ValueOrigin.TheVariants.{Result, Param}
 use Rattle.clif_ir.specs.Body.{Body}
 use Rattle.clif_ir.specs.Consistent.{IsConsistent}
-use Rattle.clif_records.specs.declared.tables.Sealed.{Sealed}
-use Rattle.clif_records.specs.declared.tables.Sealed.TheVariants.{No, Yes}
+use Rattle.clif_records.specs.Tables.{No, Sealed, Yes}
 use Rattle.std.specs.FinMap as map
 use Rattle.clif_records.specs.declared.tables.Recorded.{Recorded}
 use Rattle.clif_records.specs.Tracking.{nothing_tracked}

@@ -7,7 +7,7 @@ use Rattle.clif_tables.specs.Lists.{no_entries}
 use Rattle.clif_nodes.specs.declared.nodes.ValueOrigin.TheVariants.{Result, Param}
 use Rattle.clif_ir.specs.Body.{Body}
 use Rattle.clif_records.specs.declared.tables.Pending.{Pending}
-use Rattle.clif_records.specs.declared.tables.Sealed.TheVariants.{No}
+use Rattle.clif_records.specs.Tables.{No}
 use Rattle.std.specs.FinMap as map
 use Rattle.clif_records.specs.Tracking.{nothing_tracked}
 use Rattle.clif_ssa.specs.Ssa.{SsaState}

@@ -15,9 +15,8 @@ use Rattle.clif_paths.specs.State.{pending, complete, Definition, Kind}
 use Rattle.clif_paths.specs.Blocks.{Blocks, front, with_parameter, CanAddParameter}
 use Rattle.clif_paths.proofs.Tables.{updated-same, updated-other}
 use Rattle.clif_records.specs.declared.tables.Pending.{Pending}
-use Rattle.clif_records.specs.declared.tables.Sealed.TheVariants.{No}
+use Rattle.clif_records.specs.Tables.{No, is_yes, pending_of}
 use Rattle.clif_ssa.specs.Own.{Own}
-use Rattle.clif_records.specs.Tables.{is_yes, pending_of}
 use Rattle.clif_ssa.specs.Ssa.{SsaState, sealed_of, record_of, predecessors_of, Records, SameBlocks, SamePredecessors}
 use Rattle.clif_ssa.specs.Sound.{Describes, HomeFits, IsWaiting, IsEdgeInto, InOrder, parameters_of, is_parameter_of, is_some_block, CountsArguments, IsBehind, IsCounted, passed_count, BelongsTo}
 use Rattle.clif_ssa.proofs.Bodies.{Firm, home-append, home_past, param_exists}

@@ -10,8 +10,7 @@ use Rattle.clif_ir.specs.Changes.{with_param}
 use Rattle.clif_instructions.specs.Members.{stands_in}
 use Rattle.clif_records.specs.declared.look_up.Call.{Call}
 use Rattle.clif_records.specs.declared.look_up.Call.TheVariants.{UseVar, FinishPredecessorsLookup}
-use Rattle.clif_records.specs.declared.tables.Sealed.TheVariants.{No}
-use Rattle.clif_records.specs.Tables.{is_yes, pending_of}
+use Rattle.clif_records.specs.Tables.{No, is_yes, pending_of}
 use Rattle.clif_ssa.specs.Ssa.{SsaState, record_of, sealed_of, predecessors_of, NamesExist, HasMore, Records, SameBlocks, SameLookups, SamePredecessors, CountsLookup}
 use Rattle.clif_records.specs.Stacks.{LookUpState, calls_for}
 use Rattle.clif_ssa.specs.LookUp.{Stage, Copies, LooksUp, FinishesLookUp, MakesCall, branch_block, with_calls}

@@ -9,9 +9,7 @@ use Rattle.clif_instructions.specs.Members.{Once}
 use Rattle.clif_instructions.proofs.Members.{if_true, if_false, Once-tail}
 use Rattle.clif_records.specs.declared.tables.Pending.{Pending}
 use Rattle.clif_records.specs.declared.tables.Recorded.{Recorded}
-use Rattle.clif_records.specs.declared.tables.Sealed.{Sealed}
-use Rattle.clif_records.specs.declared.tables.Sealed.TheVariants.{No, Yes}
-use Rattle.clif_records.specs.Tables.{is_yes, pending_of, one_more}
+use Rattle.clif_records.specs.Tables.{No, Sealed, Yes, is_yes, one_more, pending_of}
 use Rattle.clif_ssa.specs.Ssa.{SsaState, no_state, record_of, lookups_of, sealed_of, Records, SameBlocks, SameLookups, SameRecords, SealedStays, Seals, CountsLookup}
 use Rattle.clif_ssa.specs.Structure.{LooksOnce}
 use Rattle.clif_ssa.specs.Running.{CountsOnce, ToComplete}

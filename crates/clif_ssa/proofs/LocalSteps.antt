@@ -10,13 +10,12 @@ use Rattle.clif_ir.specs.Body.{Body, value_at}
 use Rattle.clif_ir.specs.Changes.{with_param}
 use Rattle.clif_ir.specs.Reading.{param_home}
 use Rattle.clif_records.specs.declared.side_effects.SideEffects.{SideEffects}
-use Rattle.clif_records.specs.declared.tables.Sealed.TheVariants.{No}
+use Rattle.clif_records.specs.Tables.{No, is_yes, one_more, pending_of, sealed_at}
 use Rattle.clif_ssa.specs.Constructs.{OnlyConstructs, TellsMore, TellsZeros}
 use Rattle.clif_records.specs.Stacks.{LookUpState}
 use Rattle.clif_records.specs.Tracking.{with_binding}
 use Rattle.clif_ssa.specs.Ssa.{SsaState, sealed_of, zeroed_in, CountsLookup, Records, SameBlocks, SameLookups, zero_value}
 use Rattle.clif_ssa.specs.Steps.{UsesLocally}
-use Rattle.clif_records.specs.Tables.{is_yes, one_more, pending_of, sealed_at}
 use Rattle.clif_ssa.proofs.Constructing.{tells_none, tells_then}
 use Rattle.clif_ssa.proofs.Local.{param-zero-answer, param-zero-told, param-zeroes}
 

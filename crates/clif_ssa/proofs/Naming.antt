@@ -6,8 +6,7 @@ use Rattle.clif_types.specs.declared.types.«Type».{«Type»}
 use Rattle.clif_ir.specs.Body.{Body}
 use Rattle.clif_ir.specs.Changes.{with_param}
 use Rattle.clif_records.specs.declared.tables.Pending.{Pending}
-use Rattle.clif_records.specs.declared.tables.Sealed.TheVariants.{No}
-use Rattle.clif_records.specs.Tables.{pending_of}
+use Rattle.clif_records.specs.Tables.{No, pending_of}
 use Rattle.clif_ssa.specs.Ssa.{SsaState, record_of, sealed_of, NamesExist, HasMore, Records, SameBlocks, SamePredecessors}
 
 -- the function has more, records are old ones or of a value that exists, and so are parameters that wait

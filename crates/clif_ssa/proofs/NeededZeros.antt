@@ -21,7 +21,7 @@ use Rattle.clif_instructions.specs.declared.insert_at.InsertAt.TheVariants.{Back
 use Rattle.clif_ir.proofs.Aliases.{follow_end, follow-inside}
 use Rattle.clif_instructions.proofs.Lists.{at_set, below_or_not}
 use Rattle.clif_paths.proofs.Tables.{updated-same, updated-other}
-use Rattle.clif_records.specs.declared.tables.Sealed.{Sealed}
+use Rattle.clif_records.specs.Tables.{Sealed}
 use Rattle.clif_ssa.specs.Ssa.{zeroed, zero_value}
 use Rattle.clif_ssa.specs.Own.{with_one_more}
 use Rattle.clif_ssa.specs.Structure.{IsNeededZero, HasNeededZeros}

@@ -4,11 +4,9 @@ use Rattle.std.specs.Prelude.{Some, None, Result, OnOk, true, if◌then◌else�
 use Rattle.clif_instructions.specs.Members.{stands_in, without}
 use Rattle.clif_records.proofs.Copying.{set-none_lost, set-others, set-recorded}
 use Rattle.clif_records.proofs.RecordLaws.{on_ok}
-use Rattle.clif_records.specs.declared.tables.Sealed.TheVariants.{No, Yes}
-use Rattle.clif_records.specs.declared.tables.SsaBlock.{SsaBlock}
+use Rattle.clif_records.specs.Tables.{No, RecordMap, SsaBlock, Yes, lookups_at, one_more, pending_of, predecessors_at, record_at, sealed_at}
 use Rattle.clif_records.specs.Passed.{before_first}
 use Rattle.clif_records.specs.Records.{RecordsSome, RecordsUpTo}
-use Rattle.clif_records.specs.Tables.{RecordMap, lookups_at, one_more, pending_of, predecessors_at, record_at, sealed_at}
 use Rattle.clif_records.specs.Tracking.{Tracked}
 use Rattle.clif_ssa.specs.declared.ssa.SSABuilder.TheInside.{Inside}
 use Rattle.clif_ssa.specs.LookUp.{Copies}

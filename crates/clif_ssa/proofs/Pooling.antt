@@ -8,8 +8,7 @@ use Rattle.clif_ir.specs.Body.{Body, value_at}
 use Rattle.clif_ir.specs.Changes.{with_param}
 use Rattle.clif_nodes.specs.declared.nodes.ValueNode.{ValueNode}
 use Rattle.clif_records.specs.declared.tables.Pending.{Pending}
-use Rattle.clif_records.specs.declared.tables.Sealed.TheVariants.{No}
-use Rattle.clif_records.specs.Tables.{pending_of}
+use Rattle.clif_records.specs.Tables.{No, pending_of}
 use Rattle.clif_ssa.specs.Constructs.{OnlyConstructs}
 use Rattle.clif_ssa.specs.Limits.{ConstructionIsFull}
 use Rattle.clif_ssa.specs.Pools.{MayPool, MayPoolAll, SealingIsFull, UseIsFull}

@@ -6,9 +6,7 @@ use Rattle.clif_types.specs.declared.types.«Type».{«Type»}
 use Rattle.clif_tables.specs.Lists.{TableLists}
 use Rattle.clif_ir.specs.Body.{Body, value_at}
 use Rattle.clif_records.specs.declared.tables.Pending.{Pending}
-use Rattle.clif_records.specs.declared.tables.Sealed.{Sealed}
-use Rattle.clif_records.specs.declared.tables.Sealed.TheVariants.{Yes}
-use Rattle.clif_records.specs.Tables.{pending_of, sealed_at}
+use Rattle.clif_records.specs.Tables.{Sealed, Yes, pending_of, sealed_at}
 use Rattle.clif_ssa.specs.Constructs.{OnlyConstructs}
 use Rattle.clif_ssa.specs.Pools.{types_of, MayPool, MayPoolAll, MayPoolWaiting, SealingIsFull, UseIsFull, WaitsWithType}
 use Rattle.clif_ssa.specs.Ssa.{SsaState, sealed_of, NamesExist, SameBlocks, Seals}

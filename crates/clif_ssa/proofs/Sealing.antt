@@ -11,10 +11,8 @@ use Rattle.clif_paths.specs.BlockLaws.{BlocksSound}
 use Rattle.clif_paths.proofs.BlockSteps.{seal_block_keeps}
 use Rattle.clif_paths.proofs.PathLemmas.{same_place-true, same_place-equal, same_place-other}
 use Rattle.clif_paths.proofs.Tables.{updated-same, updated-other}
-use Rattle.clif_records.specs.declared.tables.Sealed.{Sealed}
-use Rattle.clif_records.specs.declared.tables.Sealed.TheVariants.{Yes}
+use Rattle.clif_records.specs.Tables.{Sealed, Yes, is_yes, pending_of}
 use Rattle.clif_ssa.specs.Own.{Own}
-use Rattle.clif_records.specs.Tables.{is_yes, pending_of}
 use Rattle.clif_ssa.specs.Ssa.{SsaState, sealed_of, predecessors_of, SameRecords, SamePredecessors, Seals}
 use Rattle.clif_ssa.specs.LookUp.{branch_block}
 use Rattle.clif_ssa.specs.Sound.{Describes, IsEdgeInto, InOrder, parameters_of, is_some_block, edge_target, has_entry, entry_of, SameProgram, SparesIfEntry}

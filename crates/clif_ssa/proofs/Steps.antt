@@ -7,7 +7,7 @@ use Rattle.clif_types.specs.declared.error.BuildError.TheVariants.{Memory, Full,
 use Rattle.clif_types.specs.declared.types.«Type».{«Type»}
 use Rattle.clif_ir.specs.Body.{Body}
 use Rattle.clif_ir.specs.Changes.{with_param}
-use Rattle.clif_records.specs.declared.tables.Sealed.TheVariants.{No}
+use Rattle.clif_records.specs.Tables.{No, is_yes, lookups_at, pending_of, predecessors_at, record_at, sealed_at}
 use Rattle.clif_ssa.specs.Constructs.{OnlyConstructs}
 use Rattle.clif_ssa.specs.Pools.{MayPool, UseIsFull}
 use Rattle.clif_records.specs.Stacks.{LookUpState, calls_for}
@@ -15,7 +15,6 @@ use Rattle.clif_records.specs.Tracking.{with_binding}
 use Rattle.clif_ssa.specs.Running.{stage, CountsOnce, Got}
 use Rattle.clif_ssa.specs.Ssa.{SsaState, record_of, sealed_of, predecessors_of, HasMore, KnowsNoMore, Records, RecordsStay, SameBlocks, SameLookups, SamePredecessors, SameRecords, SealedStays, CountsLookup}
 use Rattle.clif_ssa.specs.Steps.{StepKeeps, StepEnds}
-use Rattle.clif_records.specs.Tables.{is_yes, lookups_at, pending_of, predecessors_at, record_at, sealed_at}
 use Rattle.clif_ssa.proofs.Calling.{added}
 use Rattle.clif_ssa.proofs.Constructed.{param_made}
 use Rattle.clif_ssa.proofs.Constructing.{constructs_none, constructs_then}

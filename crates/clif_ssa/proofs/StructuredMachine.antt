@@ -12,9 +12,7 @@ use Rattle.clif_ssa.specs.Own.{Own}
 use Rattle.clif_records.specs.declared.look_up.Call.{Call}
 use Rattle.clif_records.specs.declared.look_up.Call.TheVariants.{UseVar, FinishPredecessorsLookup}
 use Rattle.clif_records.specs.declared.tables.Pending.{Pending}
-use Rattle.clif_records.specs.declared.tables.Sealed.{Sealed}
-use Rattle.clif_records.specs.declared.tables.Sealed.TheVariants.{No, Yes}
-use Rattle.clif_records.specs.Tables.{is_yes, pending_of}
+use Rattle.clif_records.specs.Tables.{No, Sealed, Yes, is_yes, pending_of}
 use Rattle.clif_ssa.specs.Ssa.{SsaState, record_of, sealed_of, predecessors_of, SameBlocks}
 use Rattle.clif_records.specs.Stacks.{calls_for}
 use Rattle.clif_ssa.specs.LookUp.{Copies}

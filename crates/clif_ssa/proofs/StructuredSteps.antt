@@ -15,9 +15,7 @@ use Rattle.clif_instructions.proofs.Members.{Once-tail}
 use Rattle.clif_nodes.specs.declared.nodes.ValueNode.{ValueNode}
 use Rattle.clif_ssa.specs.Own.{Own}
 use Rattle.clif_records.specs.declared.tables.Pending.{Pending}
-use Rattle.clif_records.specs.declared.tables.Sealed.{Sealed}
-use Rattle.clif_records.specs.declared.tables.Sealed.TheVariants.{No, Yes}
-use Rattle.clif_records.specs.Tables.{is_yes}
+use Rattle.clif_records.specs.Tables.{No, Sealed, Yes, is_yes}
 use Rattle.clif_ssa.specs.Ssa.{SsaState, record_of, sealed_of, SamePredecessors}
 use Rattle.clif_ssa.specs.Sound.{parameters_of}
 use Rattle.clif_ssa.specs.Structured.{VariableTypes, HasType, EdgePasses, HasParameters, Structured, waiting_of, waiting_in}

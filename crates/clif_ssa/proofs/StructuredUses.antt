@@ -11,9 +11,7 @@ use Rattle.clif_ir.specs.Reading.{param_home}
 use Rattle.clif_ssa.specs.Own.{Own}
 use Rattle.clif_records.specs.declared.look_up.Call.{Call}
 use Rattle.clif_records.specs.declared.tables.Pending.{Pending}
-use Rattle.clif_records.specs.declared.tables.Sealed.{Sealed}
-use Rattle.clif_records.specs.declared.tables.Sealed.TheVariants.{No, Yes}
-use Rattle.clif_records.specs.Tables.{is_yes, pending_of}
+use Rattle.clif_records.specs.Tables.{No, Sealed, Yes, is_yes, pending_of}
 use Rattle.clif_ssa.specs.Ssa.{SsaState, record_of, sealed_of, predecessors_of, zeroed, zeroed_in, completed, Records, SamePredecessors, Seals, Waits, Zeroes}
 use Rattle.clif_records.specs.Stacks.{LookUpState, calls_for, no_look_up}
 use Rattle.clif_ssa.specs.LookUp.{Stage, LooksUp, MakesCalls, UsesVariable, CompletesParameter}

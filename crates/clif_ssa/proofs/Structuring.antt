@@ -13,9 +13,7 @@ use Rattle.clif_instructions.specs.declared.block_call.BlockArg.{BlockArg}
 use Rattle.clif_nodes.specs.declared.nodes.InstNode.{InstNode}
 use Rattle.clif_ssa.specs.Own.{Own}
 use Rattle.clif_records.specs.declared.tables.Pending.{Pending}
-use Rattle.clif_records.specs.declared.tables.Sealed.{Sealed}
-use Rattle.clif_records.specs.declared.tables.Sealed.TheVariants.{No, Yes}
-use Rattle.clif_records.specs.Tables.{is_yes, pending_of}
+use Rattle.clif_records.specs.Tables.{No, Sealed, Yes, is_yes, pending_of}
 use Rattle.clif_ssa.specs.Ssa.{SsaState, record_of, sealed_of, predecessors_of, SameBlocks, SamePredecessors}
 use Rattle.clif_ssa.specs.Sound.{is_some_block, edges_at, edge_target, args_of}
 use Rattle.clif_ssa.specs.Structured.{VariableTypes, HasType, AreFor, EdgePasses, HasParameters, Structured, waiting_of, waiting_in}

@@ -11,10 +11,7 @@ use Rattle.clif_records.specs.declared.look_up.Call.{Call}
 use Rattle.clif_records.specs.declared.look_up.Call.TheVariants.{UseVar, FinishPredecessorsLookup}
 use Rattle.clif_records.specs.declared.side_effects.SideEffects.{SideEffects}
 use Rattle.clif_records.specs.declared.tables.Pending.{Pending}
-use Rattle.clif_records.specs.declared.tables.SsaBlock.{SsaBlock}
-use Rattle.clif_records.specs.declared.tables.Sealed.{Sealed}
-use Rattle.clif_records.specs.declared.tables.Sealed.TheVariants.{Yes}
-use Rattle.clif_records.specs.Tables.{is_yes, pending_of, sealed_at, predecessors_at}
+use Rattle.clif_records.specs.Tables.{Sealed, SsaBlock, Yes, is_yes, pending_of, predecessors_at, sealed_at}
 use Rattle.clif_ssa.specs.Ssa.{SsaState, sealed_of, predecessors_of, lookups_of, completed, completing_blocks, counted_for, KnowsNoMore, NamesExist, Named, Seals, SealedStays, SamePredecessors, SameRecords, SameLookups, CountsLookup, CountsEach}
 use Rattle.clif_records.specs.Stacks.{LookUpState, calls_for}
 use Rattle.clif_ssa.specs.LookUp.{Stage, CompletesParameter}

@@ -9,8 +9,7 @@ use Rattle.clif_ir.specs.Reading.{param_home}
 use Rattle.clif_records.specs.declared.look_up.Call.{Call}
 use Rattle.clif_records.specs.declared.look_up.Call.TheVariants.{UseVar, FinishPredecessorsLookup}
 use Rattle.clif_records.specs.declared.tables.Pending.{Pending}
-use Rattle.clif_records.specs.declared.tables.Sealed.TheVariants.{No}
-use Rattle.clif_records.specs.Tables.{pending_of}
+use Rattle.clif_records.specs.Tables.{No, pending_of}
 use Rattle.clif_ssa.specs.Ssa.{SsaState, sealed_of, predecessors_of, SamePredecessors}
 use Rattle.clif_records.specs.Stacks.{LookUpState, calls_for}
 use Rattle.clif_ssa.specs.LookUp.{Stage, branch_block, with_calls, IsWalk, IsNoParameter, EndsLookUp, LooksUp, FinishesLookUp, MakesCall, MakesCalls, none_made, made}

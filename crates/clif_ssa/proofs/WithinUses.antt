@@ -9,8 +9,7 @@ use Rattle.clif_ir.specs.Changes.{with_param}
 use Rattle.clif_ir.specs.Reading.{param_home}
 use Rattle.clif_records.specs.declared.side_effects.SideEffects.{SideEffects}
 use Rattle.clif_records.specs.declared.tables.Pending.{Pending}
-use Rattle.clif_records.specs.declared.tables.Sealed.TheVariants.{Yes}
-use Rattle.clif_records.specs.Tables.{is_yes, pending_of}
+use Rattle.clif_records.specs.Tables.{Yes, is_yes, pending_of}
 use Rattle.clif_ssa.specs.Ssa.{SsaState, sealed_of, predecessors_of, zeroed, zeroed_in, completed, completing_blocks, Named, Seals, Waits, Zeroes}
 use Rattle.clif_records.specs.Stacks.{LookUpState, no_look_up}
 use Rattle.clif_ssa.specs.LookUp.{Stage, UsesVariable, CompletesParameter, LooksUp}

@@ -18,10 +18,8 @@ use Rattle.clif_paths.specs.Steps.{aliased}
 use Rattle.clif_paths.specs.Blocks.{Blocks, front, with_zero_in, with_dropped}
 use Rattle.clif_paths.proofs.Tables.{updated-same, updated-other, aliased_cases}
 use Rattle.clif_records.specs.declared.tables.Pending.{Pending}
-use Rattle.clif_records.specs.declared.tables.Sealed.{Sealed}
-use Rattle.clif_records.specs.declared.tables.Sealed.TheVariants.{No, Yes}
+use Rattle.clif_records.specs.Tables.{No, Sealed, Yes, is_yes, pending_of}
 use Rattle.clif_ssa.specs.Own.{Own}
-use Rattle.clif_records.specs.Tables.{is_yes, pending_of}
 use Rattle.clif_ssa.specs.Ssa.{SsaState, sealed_of, zero_value}
 use Rattle.clif_ssa.specs.Zeros.{insts_of_zero, insts_of_zeros}
 use Rattle.std.proofs.lemmas.List.{append_assoc}

@@ -10,8 +10,7 @@ use Rattle.clif_instructions.specs.Members.{Once, stands_in}
 use Rattle.clif_ir.specs.Reading.{param_home}
 use Rattle.clif_records.specs.declared.look_up.Call.{Call}
 use Rattle.clif_records.specs.declared.look_up.Call.TheVariants.{UseVar, FinishPredecessorsLookup}
-use Rattle.clif_records.specs.declared.tables.Sealed.TheVariants.{No}
-use Rattle.clif_records.specs.Tables.{is_yes, pending_of}
+use Rattle.clif_records.specs.Tables.{No, is_yes, pending_of}
 use Rattle.clif_records.specs.Passed.{before_first}
 use Rattle.clif_records.specs.Tracking.{with_binding}
 use Rattle.clif_records.specs.Stacks.{LookUpState, calls_for}

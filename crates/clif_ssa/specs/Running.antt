@@ -7,8 +7,7 @@ use Rattle.clif_instructions.specs.Members.{Once}
 use Rattle.clif_records.specs.declared.look_up.Call.{Call}
 use Rattle.clif_records.specs.declared.look_up.Call.TheVariants.{UseVar, FinishPredecessorsLookup}
 use Rattle.clif_records.specs.declared.tables.Pending.{Pending}
-use Rattle.clif_records.specs.declared.tables.Sealed.TheVariants.{No}
-use Rattle.clif_records.specs.Tables.{is_yes, pending_of}
+use Rattle.clif_records.specs.Tables.{No, is_yes, pending_of}
 use Rattle.clif_records.specs.Tracking.{with_binding}
 use Rattle.clif_ssa.specs.Ssa.{SsaState, record_of, lookups_of, sealed_of, predecessors_of, Records, SameBlocks, SamePredecessors, SameLookups}
 use Rattle.clif_records.specs.Stacks.{LookUpState}

@@ -13,13 +13,9 @@ use Rattle.std.specs.Option.{option_to_list}
 use Rattle.clif_ir.specs.Reading.{param_home}
 use Rattle.clif_instructions.specs.Members.{without}
 use Rattle.clif_records.specs.declared.tables.Pending.{Pending}
-use Rattle.clif_records.specs.declared.tables.Sealed.{Sealed}
-use Rattle.clif_records.specs.declared.tables.SsaBlock.{SsaBlock}
-use Rattle.clif_records.specs.declared.tables.Sealed.TheVariants.{No, Yes}
+use Rattle.clif_records.specs.Tables.{No, RecordMap, Sealed, SsaBlock, Yes, is_yes, lookups_at, one_more, pending_of, predecessors_at, record_at, record_map_code, sealed_at, ssa_block_code}
 use Rattle.std.specs.FinMap as map
 use Rattle.std.specs.Coded.{Coded, code_by, coded×, coded_list}
-use Rattle.clif_records.specs.contracts.tables.SsaBlock as block
-use Rattle.clif_records.specs.Tables.{RecordMap, record_map_code, record_at, lookups_at, one_more, sealed_at, predecessors_at, is_yes, pending_of}
 use Rattle.clif_records.specs.Tracking.{Tracked, tracked_code, nothing_tracked, with_binding}
 
 -- what is known of each variable in each block, and of each block; which variables are marked, and which values are recorded
@@ -30,7 +26,7 @@ pub record SsaState : Type 0 where
 
 abbrev pub ssa_state_code : Coded SsaState
 ssa_state_code =
-    code_by (RecordMap × (List SsaBlock × Tracked)) (coded× record_map_code (coded× (coded_list (block.the_row).coded) tracked_code)) (λ s. (s.records, (s.blocks, s.tracking)))
+    code_by (RecordMap × (List SsaBlock × Tracked)) (coded× record_map_code (coded× (coded_list ssa_block_code) tracked_code)) (λ s. (s.records, (s.blocks, s.tracking)))
     (λ p. record { records = p.0; blocks = (p.1).0; tracking = (p.1).1 }) (λ s i. s)
 
 abbrev pub record_of : SsaState → ℕ → ℕ → Option ℕ

@@ -15,9 +15,7 @@ use Rattle.clif_instructions.specs.declared.block_call.BlockArg.TheVariants.{Val
 use Rattle.clif_instructions.specs.declared.insert_at.InsertAt.TheVariants.{Back}
 use Rattle.clif_instructions.specs.declared.instructions.InstructionData.{InstructionData}
 use Rattle.clif_records.specs.declared.tables.Pending.{Pending}
-use Rattle.clif_records.specs.declared.tables.Sealed.{Sealed}
-use Rattle.clif_records.specs.declared.tables.Sealed.TheVariants.{No, Yes}
-use Rattle.clif_records.specs.Tables.{is_yes}
+use Rattle.clif_records.specs.Tables.{No, Sealed, Yes, is_yes}
 use Rattle.clif_ssa.specs.Ssa.{SsaState, no_state, record_of, sealed_of, predecessors_of}
 use Rattle.clif_ssa.specs.Sound.{parameters_of, edges_at, edge_target, args_of}
 use Rattle.clif_ssa.specs.Own.{Own, no_own, with_own_param}

@@ -17,7 +17,7 @@ use Rattle.clif_tables.specs.Entries.{AFunction, ASignature}
 use Rattle.clif_ir.specs.Body.{Body}
 use Rattle.clif_ir.specs.Changes.{inserted_in, with_block, with_inst}
 use Rattle.clif_ir.specs.Consistent.{IsConsistent}
-use Rattle.clif_records.specs.declared.tables.Sealed.TheVariants.{Yes}
+use Rattle.clif_records.specs.Tables.{Yes}
 use Rattle.clif_records.specs.Tracking.{Tracked, marked_of, recorded_of, sets}
 use Rattle.clif_ssa.specs.Ssa.{SsaState}
 use Rattle.clif_meaning.specs.Acceptance.{Accepted, return_, verdict_on}
@@ -44,6 +44,7 @@ use Rattle.clif_simulation.specs.CarryingExamples.{recorded_in}
 use Rattle.clif_simulation.specs.Laws.{IsFinished}
 use Rattle.clif_simulation.specs.Marked.{MeansTheSameMoving}
 use Rattle.clif_builder.specs.Context.{ContextState}
+use Rattle.clif_builder.specs.Recorded.{RecordsExactly}
 use Rattle.clif_builder.specs.StandsFor.{StandsIn}
 use Rattle.clif_builder.specs.declared.context.BlockStatus.TheVariants.{Filled}
 
@@ -158,3 +159,7 @@ pub record MovingExamples : Type 0 where
   pub forgets : MeansTheSameMoving (script_of moved_calls) moved_signature U64 (view_of moved_body) (λ value. false) → ⊥
   -- and where the parameter isn't recorded, the calls aren't carried
   pub unrecorded : Carries moved_calls moved_body (moved_state_with (sets (0 ∷ []) [])) → ⊥
+  -- exactly the parameter is recorded: no set is right without it, and none with what the call returned
+  pub exactly : RecordsExactly moved_calls moved_body.values moved_state
+  pub no_less : RecordsExactly moved_calls moved_body.values (moved_state_with (sets (0 ∷ []) [])) → ⊥
+  pub no_more : RecordsExactly moved_calls moved_body.values (moved_state_with (sets (0 ∷ []) (0 ∷ 1 ∷ []))) → ⊥

@@ -5,6 +5,7 @@
 
 ghost use Rattle.clif_standing_laws.specs.Laws.{StandingIsWellPlaced, StandingReadsRight, StandingReadsRightComing, StandingReadsRightFromAnywhere, StandingRecordsAreWellPlaced};
 ghost use Rattle.clif_standing_laws.specs.MovingExamples.{MovingExamples};
+ghost use Rattle.clif_standing_laws.specs.RecordedExamples.{RecordedExamples};
 
 /// The unfinished function of a builder that stands for a list of calls has the bits of the names and variables of the
 /// list's program, with any branches and parameters of the caller's, beside each run that is interrupted at unsealed blocks;
@@ -41,4 +42,10 @@ pub fn standing_records_are_well_placed()
 /// parameter isn't recorded the list isn't carried.
 pub fn marked_parameter_moves()
     ensures { MovingExamples }
+{}
+
+/// A use of a variable in a block that isn't sealed makes a parameter for it. What is recorded then is the parameter, if the variable
+/// is marked, and else nothing: no other set is right.
+pub fn made_parameter_is_recorded()
+    ensures { RecordedExamples }
 {}

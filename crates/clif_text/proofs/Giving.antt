@@ -7,14 +7,14 @@ use Rattle.clif_calls.specs.declared.call.Name.{Name}
 use Rattle.clif_words.specs.Cursor.{texts}
 use Rattle.clif_arguments.specs.Given.{GiveNames, GivesName, first_answer}
 use Rattle.clif_arguments.specs.declared.scope.Scope.{Scope}
-use Rattle.clif_arguments.specs.Scope.{given_in, KeepsNumbered, Gives}
+use Rattle.clif_arguments.specs.Scope.{given_in, KeepsVariables, Gives}
 use Rattle.clif_text.specs.Reader.{NamesAnswers}
 use Rattle.clif_words.proofs.Texts.{texts_more}
 
 -- Whatever names more words give, behind these they give them too. The next name is of this answer.
 pub record GivenSoFar (instruction : Bool) (place answer : ℕ) (words : List (List ℕ)) (first now : Scope) : Type 0 where
   pub given : (more : List (List ℕ)) (last : List ℕ → Option Name) → GiveNames instruction place answer more (given_in now) last → GiveNames instruction place (first_answer instruction) (words ++ more) (given_in first) last
-  pub keeps : KeepsNumbered first now
+  pub keeps : KeepsVariables first now
 
 pub first_byte : (instruction : Bool) → bool_byte instruction ≡ first_answer instruction
 first_byte true = refl
@@ -23,14 +23,14 @@ first_byte false = refl
 pub none_given : (instruction : Bool) (place answer : ℕ) (scope : Scope) → answer ≡ first_answer instruction → GivenSoFar instruction place answer [] scope scope
 none_given instruction place answer scope is = record {
   given = λ more last gives. subst (λ a. GiveNames instruction place a more (given_in scope) last) is gives;
-  keeps = record { numbered = refl; totals = refl };
+  keeps = record { declared = refl; variables = refl };
 }
 
-keeps_more : (first old new : Scope) → KeepsNumbered first old → KeepsNumbered old new → KeepsNumbered first new
-keeps_more first old new before one = record { numbered = one.numbered ∙ before.numbered; totals = one.totals ∙ before.totals }
+keeps_more : (first old new : Scope) → KeepsVariables first old → KeepsVariables old new → KeepsVariables first new
+keeps_more first old new before one = record { declared = one.declared ∙ before.declared; variables = one.variables ∙ before.variables }
 
 -- one word more, which names this answer
-one_given : (instruction : Bool) (place answer next : ℕ) (words : List (List ℕ)) (word : List ℕ) (first old new : Scope) → GivenSoFar instruction place answer words first old → KeepsNumbered old new → ((more : List (List ℕ)) (last : List ℕ → Option Name) → GiveNames instruction place next more (given_in new) last → GiveNames instruction place answer (word ∷ more) (given_in old) last) → GivenSoFar instruction place next (words ++ word ∷ []) first new
+one_given : (instruction : Bool) (place answer next : ℕ) (words : List (List ℕ)) (word : List ℕ) (first old new : Scope) → GivenSoFar instruction place answer words first old → KeepsVariables old new → ((more : List (List ℕ)) (last : List ℕ → Option Name) → GiveNames instruction place next more (given_in new) last → GiveNames instruction place answer (word ∷ more) (given_in old) last) → GivenSoFar instruction place next (words ++ word ∷ []) first new
 one_given instruction place answer next words word first old new before keeps one = record {
   given = λ more last gives. subst (λ ws. GiveNames instruction place (first_answer instruction) ws (given_in first) last) (sym (append_assoc words (word ∷ []) more)) (before.given (word ∷ more) last (one more last gives));
   keeps = keeps_more first old new before.keeps keeps;

@@ -2,7 +2,7 @@
 use Rattle.std.specs.Prelude.{◌≡◌, ℕ, ◌++◌, List, [], ◌∷◌, codes}
 use Rattle.std.specs.Int.NonZero.{non_zero_u8_get}
 use Rattle.clif_types.specs.Texts.{int_cc_text}
-use Rattle.clif_types.specs.declared.extfunc.ExtFuncData.{ExtFuncData}
+use Rattle.clif_calls.specs.declared.entry.ImportedFunction.{ImportedFunction}
 use Rattle.clif_types.specs.declared.globalvalue.GlobalValueData.{GlobalValueData}
 use Rattle.clif_types.specs.declared.globalvalue.GlobalValueData.TheVariants as global
 use Rattle.clif_opcodes.specs.Names.{binary_name, cond_trap_name, convert_name, float_const_name, stack_name, unary_name}
@@ -22,7 +22,7 @@ use Rattle.clif_calls.specs.declared.table.ThrowingCall.TheVariants as throwing
 use Rattle.clif_calls.specs.Plan.{plan_of}
 use Rattle.clif_calls.specs.declared.plan.Plan.{Plan}
 use Rattle.clif_calls.specs.declared.plan.Plan.TheVariants as plan
-use Rattle.clif_arguments.specs.Arguments.{AreAnswers, AreClosed, AreItems, AreLast, AreSwitchCases, IsAnswer, IsEdge, IsExceptionTable, IsExternalName, IsFunctionRef, IsInst, IsJumpTable, IsLastEdge, IsLastOffset, IsSignatureName, IsSlot, IsTableEdge, IsVariable, Names}
+use Rattle.clif_arguments.specs.Arguments.{AreAnswers, AreClosed, AreItems, AreLast, AreSwitchCases, IsAnswer, IsEdge, IsExternalName, IsInst, IsLastEdge, IsLastOffset, IsTableEdge, IsVariable, Names}
 use Rattle.clif_arguments.specs.Header.{IsSignature}
 use Rattle.clif_text.specs.Texts.{library_call_name}
 
@@ -44,9 +44,9 @@ IsPlain names words (plan.Load flags ty arg offset) =
 IsPlain names words (plan.Store flags args offset) =
     (f operands o : List (List ℕ)) × (words ≡ codes "store" ∷ (f ++ (operands ++ o))) × AreFlags f flags × AreAnswers names operands args × IsLastOffset o offset
 IsPlain names words (plan.StackLoad opcode ty slot offset) =
-    (t s : List ℕ) × (o : List (List ℕ)) × (words ≡ (stack_name opcode ++ (codes "." ++ t)) ∷ s ∷ o) × IsTypeWord t ty × IsSlot names s slot × IsLastOffset o offset
+    (t s : List ℕ) × (o : List (List ℕ)) × (words ≡ (stack_name opcode ++ (codes "." ++ t)) ∷ s ∷ o) × IsTypeWord t ty × IsAnswer names s slot × IsLastOffset o offset
 IsPlain names words (plan.StackStore arg slot offset) =
-    (x s : List ℕ) × (o : List (List ℕ)) × (words ≡ codes "stack_store" ∷ x ∷ s ∷ o) × IsAnswer names x arg × IsSlot names s slot × IsLastOffset o offset
+    (x s : List ℕ) × (o : List (List ℕ)) × (words ≡ codes "stack_store" ∷ x ∷ s ∷ o) × IsAnswer names x arg × IsAnswer names s slot × IsLastOffset o offset
 IsPlain names words (plan.CondTrap opcode arg code) =
     (c reason : List ℕ) × (words ≡ cond_trap_name opcode ∷ c ∷ reason ∷ []) × IsAnswer names c arg × IsTrapCode reason code
 IsPlain names words _ = ⊥
@@ -57,11 +57,11 @@ IsGlobalValue words global.VMContext = words ≡ codes "vmctx" ∷ []
 IsGlobalValue words (global.Symbol name) = (n : List (List ℕ)) × (words ≡ codes "symbol" ∷ n) × IsExternalName n name
 
 -- a function that is imported: whether it is near and whether its calls can be patched, its name, and its signature
-abbrev pub IsImported : Names → List (List ℕ) → ExtFuncData → Type 0
+abbrev pub IsImported : Names → List (List ℕ) → ImportedFunction → Type 0
 IsImported names words function =
     (n : List (List ℕ)) × (s : List ℕ)
     × (words ≡ flag_word function.colocated (codes "colocated") ++ (flag_word function.patchable (codes "patchable") ++ (n ++ s ∷ [])))
-    × IsExternalName n function.name × IsSignatureName names s function.signature
+    × IsExternalName n function.name × IsAnswer names s function.signature
 
 -- The words stand for a call that makes an entry of a table.
 abbrev pub IsEntry : Names → List (List ℕ) → EntryCall → Type 0
@@ -74,10 +74,10 @@ IsEntry names words (entry.ImportFunction function) = (f : List (List ℕ)) × (
 -- The words stand for an outside call: its name, what it calls, and what is passed.
 abbrev pub IsOutside : Names → List (List ℕ) → OutsideCall → Type 0
 IsOutside names words (outside.Call function args) =
-    (f : List ℕ) × (v : List (List ℕ)) × (words ≡ codes "call" ∷ f ∷ v) × IsFunctionRef names f function × AreLast names v args.items
+    (f : List ℕ) × (v : List (List ℕ)) × (words ≡ codes "call" ∷ f ∷ v) × IsAnswer names f function × AreLast names v args.items
 IsOutside names words (outside.CallIndirect signature callee args) =
     (s p : List ℕ) × (v : List (List ℕ)) × (words ≡ codes "call_indirect" ∷ s ∷ p ∷ v)
-    × IsSignatureName names s signature × IsAnswer names p callee × AreLast names v args.items
+    × IsAnswer names s signature × IsAnswer names p callee × AreLast names v args.items
 
 -- The words stand for an instruction with a constant as an operand: its name, its condition if it has one, a value and a number.
 abbrev pub IsImmediate : Names → List (List ℕ) → ImmediateCall → Type 0
@@ -105,10 +105,10 @@ IsMemory names words (memory.Compare cond left right size left_align right_align
 abbrev pub IsThrowing : Names → List (List ℕ) → ThrowingCall → Type 0
 IsThrowing names words (throwing.TryCall function args table) =
     (f t : List ℕ) × (v : List (List ℕ)) × (words ≡ codes "try_call" ∷ f ∷ (v ++ t ∷ []))
-    × IsFunctionRef names f function × AreClosed names v args.items × IsExceptionTable names t table
+    × IsAnswer names f function × AreClosed names v args.items × IsAnswer names t table
 IsThrowing names words (throwing.TryCallIndirect callee args table) =
     (p t : List ℕ) × (v : List (List ℕ)) × (words ≡ codes "try_call_indirect" ∷ p ∷ (v ++ t ∷ []))
-    × IsAnswer names p callee × AreClosed names v args.items × IsExceptionTable names t table
+    × IsAnswer names p callee × AreClosed names v args.items × IsAnswer names t table
 
 -- The words stand for the call: its name, and then what it takes, in order.
 abbrev pub IsCall : Names → List (List ℕ) → Call → Type 0
@@ -128,8 +128,10 @@ IsCall names words (call.CreateJumpTable default entries) =
     (d : List ℕ) × (e : List (List ℕ)) × (words ≡ codes "create_jump_table" ∷ d ∷ e) × IsAnswer names d default × AreAnswers names e entries.items
 IsCall names words (call.CreateExceptionTable signature normal items) =
     (s n : List ℕ) × (i : List (List ℕ)) × (words ≡ codes "create_exception_table" ∷ s ∷ n ∷ i)
-    × IsSignatureName names s signature × IsAnswer names n normal × AreItems names i items.items
+    × IsAnswer names s signature × IsAnswer names n normal × AreItems names i items.items
 IsCall names words (call.DeclareVar ty) = (t : List ℕ) × (words ≡ codes "declare_var" ∷ t ∷ []) × IsTypeWord t ty
+IsCall names words (call.DeclareVarNeedsStackMap variable) = (a : List ℕ) × (words ≡ codes "declare_var_needs_stack_map" ∷ a ∷ []) × IsVariable names a variable
+IsCall names words (call.DeclareValueNeedsStackMap value) = (a : List ℕ) × (words ≡ codes "declare_value_needs_stack_map" ∷ a ∷ []) × IsAnswer names a value
 IsCall names words (call.DefVar variable value) = (a b : List ℕ) × (words ≡ codes "def_var" ∷ a ∷ b ∷ []) × IsVariable names a variable × IsAnswer names b value
 IsCall names words (call.UseVar variable) = (a : List ℕ) × (words ≡ codes "use_var" ∷ a ∷ []) × IsVariable names a variable
 IsCall names words (call.TryDefVar variable value) = (a b : List ℕ) × (words ≡ codes "try_def_var" ∷ a ∷ b ∷ []) × IsVariable names a variable × IsAnswer names b value
@@ -148,7 +150,7 @@ IsCall names words (call.F128const bytes) = (n : List ℕ) × (words ≡ codes "
 IsCall names words (call.Vconst ty bytes) = (t n : List ℕ) × (words ≡ (codes "vconst." ++ t) ∷ n ∷ []) × IsTypeWord t ty × IsBytes n bytes.items
 IsCall names words (call.Jump edge) = (e : List (List ℕ)) × (words ≡ codes "jump" ∷ e) × IsLastEdge names e edge
 IsCall names words (call.Brif condition first second) = (a : List ℕ) × (e f : List (List ℕ)) × (words ≡ codes "brif" ∷ a ∷ (e ++ f)) × IsAnswer names a condition × IsEdge names e first × IsLastEdge names f second
-IsCall names words (call.BrTable index table) = (a t : List ℕ) × (words ≡ codes "br_table" ∷ a ∷ t ∷ []) × IsAnswer names a index × IsJumpTable names t table
+IsCall names words (call.BrTable index table) = (a t : List ℕ) × (words ≡ codes "br_table" ∷ a ∷ t ∷ []) × IsAnswer names a index × IsAnswer names t table
 IsCall names words (call.Switch entries value otherwise) =
     (v o : List ℕ) × (cases : List (List ℕ)) × (words ≡ codes "switch" ∷ v ∷ o ∷ cases)
     × IsAnswer names v value × IsAnswer names o otherwise × AreSwitchCases names cases entries.items

@@ -23,8 +23,8 @@ operands_text (operands.TypedBytes ty bytes) = codes "." ++ (type_text ty ++ (co
 operands_text (operands.Edge edge) = codes " " ++ table_edge_text edge.now
 operands_text (operands.Table default entries) = codes " " ++ (answer_text default ++ answers_text entries.now)
 operands_text (operands.Exceptions signature normal items) =
-    codes " sig" ++ (decimal signature ++ (codes " " ++ (answer_text normal ++ items_text items.now)))
-operands_text (operands.Branch index table) = codes " " ++ (answer_text index ++ (codes " jt" ++ decimal table))
+    codes " " ++ (answer_text signature ++ (codes " " ++ (answer_text normal ++ items_text items.now)))
+operands_text (operands.Branch index table) = codes " " ++ (answer_text index ++ (codes " " ++ answer_text table))
 operands_text (operands.Outside called) = outside_text called.now
 operands_text (operands.Immediate called) = immediate_text called
 operands_text (operands.Memory called) = memory_text called

@@ -4,10 +4,10 @@ use Rattle.clif_words.specs.declared.error.LineError.{LineError}
 use Rattle.clif_words.specs.declared.error.LineError.TheVariants as error
 use Rattle.clif_text.specs.declared.reader.Reader.{Reader}
 use Rattle.clif_arguments.specs.Header.{header_said}
-use Rattle.clif_arguments.specs.Given.{no_totals, numbered_from, totals_from, first_answer, GiveNames}
+use Rattle.clif_arguments.specs.Given.{declared_from, variables_from, first_answer, GiveNames}
 use Rattle.clif_text.specs.Grammar.{IsCall}
 use Rattle.clif_arguments.specs.declared.scope.Scope.{Scope}
-use Rattle.clif_arguments.specs.Scope.{given_in, KeepsNumbered}
+use Rattle.clif_arguments.specs.Scope.{given_in, KeepsVariables}
 use Rattle.clif_text.specs.declared.reader.Unread.{Unread}
 use Rattle.clif_text.specs.Script.{line_at, lines_of, nothing_said, IsUnread, LinesSay, Said, SaysCall, LineSays}
 use Rattle.clif_words.specs.Words.{HasWord}
@@ -16,10 +16,10 @@ use Rattle.clif_words.specs.Words.{HasWord}
 abbrev pub said_to : Reader → Said
 said_to reader = record { header = header_said reader.header; calls = reader.calls.items; numbers = reader.lines.items; given = given_in reader.scope }
 
--- the scope has what the calls so far answer by number
+-- the scope has the variables that the calls so far declare
 pub record IsCounted (reader : Reader) : Type 0 where
-  pub numbered : reader.scope.numbered.items ≡ numbered_from no_totals reader.calls.items
-  pub totals : reader.scope.totals ≡ totals_from no_totals reader.calls.items
+  pub declared : reader.scope.declared.items ≡ declared_from 0 reader.calls.items
+  pub variables : reader.scope.variables ≡ variables_from 0 reader.calls.items
 
 -- one call more, for which these words stand, and to whose answers these names are given
 abbrev pub WordsSay : List (List ℕ) → List (List ℕ) → ℕ → Reader → Reader → Type 0
@@ -32,7 +32,7 @@ LineAdds line number old new = IsCounted old → IsCounted new × LineSays numbe
 -- these names were given to the answers of the call at this place
 pub record NamesAnswers (instruction : Bool) (place : ℕ) (names : List (List ℕ)) (old new : Scope) : Type 0 where
   pub given : GiveNames instruction place (first_answer instruction) names (given_in old) (given_in new)
-  pub keeps : KeepsNumbered old new
+  pub keeps : KeepsVariables old new
 
 -- memory was refused, or the line has a word
 abbrev pub RefusesWords : List ℕ → LineError → Type 0

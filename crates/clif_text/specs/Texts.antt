@@ -5,7 +5,7 @@ use Rattle.std.specs.Int.NonZero.{non_zero_u8_get}
 use Rattle.clif_opcodes.specs.Names.{binary_name, cond_trap_name, convert_name, float_const_name, stack_name, unary_name}
 use Rattle.clif_types.specs.Texts.{bytes_text, type_text, call_conv_text, external_name_text, int_cc_text, lib_call_text, mem_flags_text, signature_text, trap_code_text, user_func_name_text}
 use Rattle.clif_types.specs.Signature.{SignatureShape}
-use Rattle.clif_types.specs.declared.extfunc.ExtFuncData.{ExtFuncData}
+use Rattle.clif_calls.specs.declared.entry.ImportedFunction.{ImportedFunction}
 use Rattle.clif_types.specs.declared.extname.ExternalName.{ExternalName}
 use Rattle.clif_types.specs.declared.extname.ExternalName.TheVariants as name
 use Rattle.clif_types.specs.declared.extname.UserFuncName.{UserFuncName}
@@ -87,10 +87,6 @@ switch_cases_text entries = flat_map (λ one. codes " " ++ switch_case_text one)
 abbrev pub variable_text : ℕ → List ℕ
 variable_text number = codes "var" ++ decimal number
 
--- `ss0`
-abbrev pub slot_text : ℕ → List ℕ
-slot_text number = codes "ss" ++ decimal number
-
 -- ` -4`, and nothing for 0
 abbrev pub offset_text : ℤ → List ℕ
 offset_text offset = if nat_abs offset == 0 then [] else codes " " ++ signed_decimal offset
@@ -108,8 +104,8 @@ plan_text (plan.IntCompare cond args) = codes "icmp " ++ (int_cc_text cond ++ an
 plan_text (plan.Ternary args) = codes "select" ++ answers_text args
 plan_text (plan.Load flags ty arg offset) = codes "load." ++ (type_text ty ++ (mem_flags_text flags ++ (codes " " ++ (answer_text arg ++ offset_text offset))))
 plan_text (plan.Store flags args offset) = codes "store" ++ (mem_flags_text flags ++ (answers_text args ++ offset_text offset))
-plan_text (plan.StackLoad opcode ty slot offset) = stack_name opcode ++ (codes "." ++ (type_text ty ++ (codes " " ++ (slot_text slot ++ offset_text offset))))
-plan_text (plan.StackStore arg slot offset) = codes "stack_store " ++ (answer_text arg ++ (codes " " ++ (slot_text slot ++ offset_text offset)))
+plan_text (plan.StackLoad opcode ty slot offset) = stack_name opcode ++ (codes "." ++ (type_text ty ++ (codes " " ++ (answer_text slot ++ offset_text offset))))
+plan_text (plan.StackStore arg slot offset) = codes "stack_store " ++ (answer_text arg ++ (codes " " ++ (answer_text slot ++ offset_text offset)))
 plan_text (plan.Trap code) = codes "trap " ++ trap_code_text code
 plan_text (plan.CondTrap opcode arg code) = cond_trap_name opcode ++ (codes " " ++ (answer_text arg ++ (codes " " ++ trap_code_text code)))
 plan_text (plan.Jump destination) = codes "jump " ++ edge_text destination.now
@@ -127,11 +123,11 @@ abbrev pub global_text : GlobalValueData → List ℕ
 global_text global.VMContext = codes "vmctx"
 global_text (global.Symbol name) = codes "symbol " ++ imported_name_text name
 
--- `colocated patchable %f sig0`
-abbrev pub imported_text : ExtFuncData → List ℕ
+-- `colocated patchable %f $P.K`
+abbrev pub imported_text : ImportedFunction → List ℕ
 imported_text function =
     (if function.colocated then codes "colocated " else [])
-    ++ ((if function.patchable then codes "patchable " else []) ++ (imported_name_text function.name ++ (codes " sig" ++ decimal function.signature)))
+    ++ ((if function.patchable then codes "patchable " else []) ++ (imported_name_text function.name ++ (codes " " ++ answer_text function.signature)))
 
 -- a call that makes an entry of a table
 abbrev pub entry_text : EntryCall → List ℕ
@@ -147,9 +143,9 @@ arguments_text names = codes "(" ++ (answers_text names ++ codes ")")
 
 -- an outside call
 abbrev pub outside_text : OutsideCall → List ℕ
-outside_text (outside.Call function args) = codes "call fn" ++ (decimal function ++ arguments_text args.items)
+outside_text (outside.Call function args) = codes "call " ++ (answer_text function ++ arguments_text args.items)
 outside_text (outside.CallIndirect signature callee args) =
-    codes "call_indirect sig" ++ (decimal signature ++ (codes " " ++ (answer_text callee ++ arguments_text args.items)))
+    codes "call_indirect " ++ (answer_text signature ++ (codes " " ++ (answer_text callee ++ arguments_text args.items)))
 
 -- an instruction with a constant as an operand
 abbrev pub immediate_text : ImmediateCall → List ℕ
@@ -182,9 +178,9 @@ memory_text (memory.Compare cond left right size left_align right_align flags) =
 
 -- a call along the edges of an exception table
 abbrev pub throwing_text : ThrowingCall → List ℕ
-throwing_text (throwing.TryCall function args table) = codes "try_call fn" ++ (decimal function ++ (arguments_text args.items ++ (codes " extable" ++ decimal table)))
+throwing_text (throwing.TryCall function args table) = codes "try_call " ++ (answer_text function ++ (arguments_text args.items ++ (codes " " ++ answer_text table)))
 throwing_text (throwing.TryCallIndirect callee args table) =
-    codes "try_call_indirect " ++ (answer_text callee ++ (arguments_text args.items ++ (codes " extable" ++ decimal table)))
+    codes "try_call_indirect " ++ (answer_text callee ++ (arguments_text args.items ++ (codes " " ++ answer_text table)))
 
 abbrev pub call_text : Call → List ℕ
 call_text call.CreateBlock = codes "create_block"
@@ -201,8 +197,10 @@ call_text (call.Entry entry) = entry_text entry
 call_text (call.BlockCall edge) = codes "block_call " ++ table_edge_text edge
 call_text (call.CreateJumpTable default entries) = codes "create_jump_table " ++ (answer_text default ++ answers_text entries.items)
 call_text (call.CreateExceptionTable signature normal items) =
-    codes "create_exception_table sig" ++ (decimal signature ++ (codes " " ++ (answer_text normal ++ items_text items.items)))
+    codes "create_exception_table " ++ (answer_text signature ++ (codes " " ++ (answer_text normal ++ items_text items.items)))
 call_text (call.DeclareVar ty) = codes "declare_var " ++ type_text ty
+call_text (call.DeclareVarNeedsStackMap variable) = codes "declare_var_needs_stack_map " ++ variable_text variable
+call_text (call.DeclareValueNeedsStackMap value) = codes "declare_value_needs_stack_map " ++ answer_text value
 call_text (call.DefVar variable value) = codes "def_var " ++ (variable_text variable ++ (codes " " ++ answer_text value))
 call_text (call.UseVar variable) = codes "use_var " ++ variable_text variable
 call_text (call.TryDefVar variable value) = codes "try_def_var " ++ (variable_text variable ++ (codes " " ++ answer_text value))
@@ -221,7 +219,7 @@ call_text (call.F128const bytes) = codes "f128const " ++ bytes_text bytes.items
 call_text (call.Vconst ty bytes) = codes "vconst." ++ (type_text ty ++ (codes " " ++ bytes_text bytes.items))
 call_text (call.Jump edge) = codes "jump " ++ edge_text edge
 call_text (call.Brif condition first second) = codes "brif " ++ (answer_text condition ++ (codes " " ++ (edge_text first ++ (codes " " ++ edge_text second))))
-call_text (call.BrTable index table) = codes "br_table " ++ (answer_text index ++ (codes " jt" ++ decimal table))
+call_text (call.BrTable index table) = codes "br_table " ++ (answer_text index ++ (codes " " ++ answer_text table))
 call_text (call.Switch entries value otherwise) =
     codes "switch " ++ (answer_text value ++ (codes " " ++ (answer_text otherwise ++ switch_cases_text entries.items)))
 call_text (call.Throwing called) = throwing_text called

@@ -29,12 +29,6 @@ use clif_words::error::{Expected, Fault, LineError};
 use clif_words::types::type_named;
 use std::alloc::Global;
 
-// The calls of the format that aren't understood so far, without the type that may follow their name.
-const NOT_SUPPORTED: [&str; 2] = [
-    "declare_var_needs_stack_map",
-    "declare_value_needs_stack_map",
-];
-
 // The call of this name, with what follows it; not all of that may be taken.
 fn read_call<'a>(
     alloc: Global,
@@ -57,6 +51,12 @@ fn read_call<'a>(
             entries: args.last_edge_names(alloc)?,
         }),
         "declare_var" => Ok(Call::DeclareVar { ty: args.ty()? }),
+        "declare_var_needs_stack_map" => Ok(Call::DeclareVarNeedsStackMap {
+            variable: args.variable()?,
+        }),
+        "declare_value_needs_stack_map" => Ok(Call::DeclareValueNeedsStackMap {
+            value: args.value()?,
+        }),
         "def_var" => Ok(Call::DefVar {
             variable: args.variable()?,
             value: args.value()?,
@@ -308,8 +308,6 @@ fn not_understood<'a>(head: &'a str, name: &'a str) -> LineError<'a> {
         || stack_named(name).is_some();
     if wants_type {
         LineError::Fault(Fault::NoType)
-    } else if NOT_SUPPORTED.contains(&name) {
-        LineError::Fault(Fault::NotSupported(name))
     } else {
         LineError::Fault(Fault::UnknownCall(head))
     }
@@ -387,6 +385,8 @@ pub(crate) fn answers_of(call: &Call) -> Answers
         | Call::InsertBlockAfter { .. }
         | Call::SetColdBlock { .. }
         | Call::EnsureInsertedBlock
+        | Call::DeclareVarNeedsStackMap { .. }
+        | Call::DeclareValueNeedsStackMap { .. }
         | Call::DefVar { .. }
         | Call::TryDefVar { .. }
         | Call::SetSrcloc { .. }

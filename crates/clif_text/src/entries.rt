@@ -5,8 +5,8 @@ ghost use Rattle.clif_arguments.specs.Taking.{TakesWords, names_in};
 ghost use Rattle.clif_text.specs.Reading.{ReadsCall};
 
 use clif_arguments::args::Args;
-use clif_calls::{Call, EntryCall};
-use clif_types::{DynamicStackSlotData, ExtFuncData, GlobalValueData};
+use clif_calls::{Call, EntryCall, ImportedFunction};
+use clif_types::{DynamicStackSlotData, GlobalValueData};
 use clif_words::error::{Expected, Fault, LineError};
 use std::alloc::Global;
 
@@ -62,14 +62,14 @@ fn global_value<'a>(
 }
 
 // A function that is imported.
-fn imported<'a>(alloc: Global, args: &mut Args<'_, 'a>) -> Result<ExtFuncData, LineError<'a>>
+fn imported<'a>(alloc: Global, args: &mut Args<'_, 'a>) -> Result<ImportedFunction, LineError<'a>>
     ensures { IfOk result (TakesWords args.old args.new (IsImported (names_in args.old))) }
 {
     let colocated = args.has("colocated");
     let patchable = args.has("patchable");
     let name = args.external_name(alloc, Expected::FunctionName)?;
     let signature = args.signature()?;
-    Ok(ExtFuncData {
+    Ok(ImportedFunction {
         name,
         signature,
         colocated,

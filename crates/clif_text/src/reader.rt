@@ -2,7 +2,7 @@
 ghost use Rattle.std.specs.Prelude.{◌≡◌, ◌≢◌, ◌++◌, ◌∷◌, [], ℕ, List, IfOk, IfErr, IfNone, IfSome, OnOk, codes, true};
 ghost use Rattle.std.specs.List.{All};
 ghost use Rattle.clif_words.specs.Cursor.{texts};
-ghost use Rattle.clif_arguments.specs.Given.{numbered_kind, unnamed_in};
+ghost use Rattle.clif_arguments.specs.Given.{is_declaration};
 ghost use Rattle.clif_text.specs.Explanation.{ExplainsText};
 ghost use Rattle.clif_text.specs.Reader.{IsUnreadLine, NamesAnswers, SaysLines, said_to};
 ghost use Rattle.clif_text.specs.Script as script;
@@ -10,8 +10,8 @@ ghost use Rattle.clif_text.specs.Script as script;
 use crate::calls::{Answers, answers_of, call_of, refused_in_call};
 use crate::explanation::{Explanation, hint_of};
 use clif_arguments::header::{Header, is_header};
-use clif_arguments::scope::{Kind, Scope, Unnamed, is_name};
-use clif_calls::{Call, EntryCall, Name, OutsideAnswer, table_count};
+use clif_arguments::scope::{Scope, is_name};
+use clif_calls::{Call, Moves, Name, OutsideAnswer};
 use clif_types::{Signature, TargetFrontendConfig, UserFuncName};
 use clif_words::cursor::Cursor;
 use clif_words::error::{Expected, Fault, LineError, ReadError};
@@ -27,8 +27,10 @@ pub struct Script {
     pub signature: Signature,
     /// The target.
     pub config: TargetFrontendConfig,
-    /// What outside calls return in a run, for each function of which the text says it.
+    /// How outside calls end in a run, in the order of the lines that say it.
     pub answers: Vec<OutsideAnswer>,
+    /// How a collector moves in a run; `None`, where the text doesn't say it: it moves nothing.
+    pub moves: Option<Moves>,
     /// The calls, in order.
     pub calls: Vec<Call>,
     /// For each call the number of its line; lines are numbered from 1 on.
@@ -79,6 +81,7 @@ impl<'a> Reader<'a> {
         ensures { IsScriptOf (said_to self.entry) result }
     {
         let config = self.header.config();
+        let moves = self.header.moves();
         let Reader {
             alloc,
             mut header,
@@ -93,6 +96,7 @@ impl<'a> Reader<'a> {
             signature,
             config,
             answers,
+            moves,
             calls,
             lines,
         }
@@ -131,9 +135,7 @@ impl<'a> Reader<'a> {
     {
         let call = call_of(self.alloc, words, &self.scope)?;
         let answers = answers_of(&call);
-        let unnamed = unnamed_in(self.alloc, &call)?;
-        self.scope.count(kind_answered(&call))?;
-        self.scope.add_unnamed(unnamed)?;
+        self.scope.count(declares_variable(&call))?;
         give_names(&mut self.scope, self.calls.len(), names, answers)?;
         self.calls.push(call)?;
         self.lines.push(number)?;
@@ -190,34 +192,11 @@ impl<'a> Reader<'a> {
     }
 }
 
-// Of what kind the call answers one, if it answers any by number.
-fn kind_answered(call: &Call) -> Option<Kind>
-    ensures { result ≡ numbered_kind call.now }
+// Whether the call declares a variable.
+fn declares_variable(call: &Call) -> bool
+    ensures { result ≡ is_declaration call.now }
 {
-    match call {
-        Call::DeclareVar { .. } => Some(Kind::Variable),
-        Call::Entry(EntryCall::CreateSizedStackSlot { .. }) => Some(Kind::StackSlot),
-        Call::Entry(EntryCall::ImportSignature(_)) => Some(Kind::Signature),
-        Call::Entry(EntryCall::ImportFunction(_)) => Some(Kind::Function),
-        Call::CreateJumpTable { .. } => Some(Kind::JumpTable),
-        Call::CreateExceptionTable { .. } => Some(Kind::ExceptionTable),
-        _ => None,
-    }
-}
-
-// How many entries of tables the call makes that no name leads to.
-fn unnamed_in(alloc: Global, call: &Call) -> Result<Unnamed, AllocError>
-    ensures { IfOk result (λ made. made ≡ unnamed_in call.now) }
-{
-    let (jump_tables, imports) = match call {
-        Call::Switch { entries, .. } => (table_count(alloc, entries.as_slice())?, 0),
-        Call::Memory(called) => (0, usize::from(called.called_function().is_some())),
-        _ => (0, 0),
-    };
-    Ok(Unnamed {
-        jump_tables,
-        imports,
-    })
+    matches!(call, Call::DeclareVar { .. })
 }
 
 // The name that the word gives to an instruction, if it has an `@` before it and the call makes one.

@@ -6,13 +6,13 @@ ghost use Rattle.clif_words.specs.Spelling.{overlap_word};
 
 use crate::memory::library_call_name;
 use clif_calls::{
-    Call, Edge, EntryCall, ImmediateCall, MemoryCall, Name, OutsideCall, Passed, Plan, SwitchEntry,
-    TableEdge, TableItem, ThrowingCall,
+    Call, Edge, EntryCall, ImmediateCall, ImportedFunction, MemoryCall, Name, OutsideCall, Passed,
+    Plan, SwitchEntry, TableEdge, TableItem, ThrowingCall,
 };
 use clif_records::Variable;
 use clif_types::{
-    ExtFuncData, ExternalName, GlobalValueData, HexBytes, JumpTable, PointerWidth, SigRef,
-    Signature, TargetFrontendConfig, Type, UserFuncName,
+    ExternalName, GlobalValueData, HexBytes, PointerWidth, Signature, TargetFrontendConfig, Type,
+    UserFuncName,
 };
 use std::alloc::{AllocError, Global};
 use std::fmt;
@@ -226,12 +226,12 @@ impl fmt::Display for PlanText<'_, '_> {
                 slot,
                 offset,
             } => {
-                let (name, offset) = (opcode.name(), OffsetText(*offset));
-                write!(f, "{name}.{ty} {slot}{offset}")
+                let (name, slot) = (opcode.name(), AnswerText(*slot));
+                write!(f, "{name}.{ty} {slot}{}", OffsetText(*offset))
             }
             Plan::StackStore { arg, slot, offset } => {
-                let (x, offset) = (AnswerText(*arg), OffsetText(*offset));
-                write!(f, "stack_store {x} {slot}{offset}")
+                let (x, slot) = (AnswerText(*arg), AnswerText(*slot));
+                write!(f, "stack_store {x} {slot}{}", OffsetText(*offset))
             }
             Plan::Trap { code } => write!(f, "trap {code}"),
             Plan::CondTrap { opcode, arg, code } => {
@@ -285,7 +285,7 @@ impl fmt::Display for GlobalText<'_> {
 
 // A function that is imported.
 #[derive(Clone, Copy)]
-struct Imported<'a>(&'a ExtFuncData);
+struct Imported<'a>(&'a ImportedFunction);
 
 impl fmt::Display for Imported<'_> {
     ghost output = { λ text. Some (imported_text text.0.now) };
@@ -298,7 +298,7 @@ impl fmt::Display for Imported<'_> {
         if function.patchable {
             f.write_str("patchable ")?;
         }
-        let (name, signature) = (ImportedName(&function.name), function.signature);
+        let (name, signature) = (ImportedName(&function.name), AnswerText(function.signature));
         write!(f, "{name} {signature}")
     }
 }
@@ -352,15 +352,20 @@ impl fmt::Display for OutsideText<'_> {
     fn fmt<W: fmt::Write>(&self, f: &mut fmt::Formatter<W>) -> fmt::Result {
         match self.0 {
             OutsideCall::Call { function, args } => {
-                write!(f, "call {function}{}", ArgumentsText(args.as_slice()))
+                let (function, arguments) = (AnswerText(*function), ArgumentsText(args.as_slice()));
+                write!(f, "call {function}{arguments}")
             }
             OutsideCall::CallIndirect {
                 signature,
                 callee,
                 args,
             } => {
-                let (callee, arguments) = (AnswerText(*callee), ArgumentsText(args.as_slice()));
-                write!(f, "call_indirect {signature} {callee}{arguments}")
+                let (signature, callee) = (AnswerText(*signature), AnswerText(*callee));
+                write!(
+                    f,
+                    "call_indirect {signature} {callee}{}",
+                    ArgumentsText(args.as_slice())
+                )
             }
         }
     }
@@ -475,18 +480,25 @@ impl fmt::Display for ThrowingText<'_> {
                 function,
                 args,
                 table,
-            } => write!(
-                f,
-                "try_call {function}{} {table}",
-                ArgumentsText(args.as_slice())
-            ),
+            } => {
+                let (function, table) = (AnswerText(*function), AnswerText(*table));
+                write!(
+                    f,
+                    "try_call {function}{} {table}",
+                    ArgumentsText(args.as_slice())
+                )
+            }
             ThrowingCall::TryCallIndirect {
                 callee,
                 args,
                 table,
             } => {
-                let (callee, arguments) = (AnswerText(*callee), ArgumentsText(args.as_slice()));
-                write!(f, "try_call_indirect {callee}{arguments} {table}")
+                let (callee, table) = (AnswerText(*callee), AnswerText(*table));
+                write!(
+                    f,
+                    "try_call_indirect {callee}{} {table}",
+                    ArgumentsText(args.as_slice())
+                )
             }
         }
     }
@@ -509,8 +521,8 @@ enum Operands<'a> {
     TypedBytes(Type, &'a [u8]),
     Edge(&'a TableEdge),
     Table(Name, &'a [Name]),
-    Exceptions(SigRef, Name, &'a [TableItem]),
-    Branch(Name, JumpTable),
+    Exceptions(Name, Name, &'a [TableItem]),
+    Branch(Name, Name),
     Outside(&'a OutsideCall),
     Immediate(ImmediateCall),
     Memory(MemoryCall),
@@ -545,10 +557,12 @@ impl fmt::Display for Operands<'_> {
                 write!(f, " {}{}", AnswerText(*default), AnswersText(entries))
             }
             Operands::Exceptions(signature, normal, items) => {
-                let (normal, items) = (AnswerText(*normal), ItemsText(items));
-                write!(f, " {signature} {normal}{items}")
+                let (signature, normal) = (AnswerText(*signature), AnswerText(*normal));
+                write!(f, " {signature} {normal}{}", ItemsText(items))
             }
-            Operands::Branch(index, table) => write!(f, " {} {table}", AnswerText(*index)),
+            Operands::Branch(index, table) => {
+                write!(f, " {} {}", AnswerText(*index), AnswerText(*table))
+            }
             Operands::Outside(called) => write!(f, "{}", OutsideText(called)),
             Operands::Immediate(called) => write!(f, "{}", ImmediateText(*called)),
             Operands::Memory(called) => write!(f, "{}", MemoryText(*called)),
@@ -568,6 +582,11 @@ impl fmt::Display for Operands<'_> {
 const PARAMS: &str = "append_block_params_for_function_params";
 
 const RETURNS: &str = "append_block_params_for_function_returns";
+
+// The names of the calls that ask for stack maps: of a variable, and of a value.
+const MARK: &str = "declare_var_needs_stack_map";
+
+const RECORD: &str = "declare_value_needs_stack_map";
 
 // The name of a call and what is written behind it; an instruction brings its name.
 fn parts(call: &Call) -> (&'static str, Operands<'_>)
@@ -606,6 +625,8 @@ fn parts(call: &Call) -> (&'static str, Operands<'_>)
             ("create_exception_table", operands)
         }
         Call::DeclareVar { ty } => ("declare_var", Operands::Type(*ty)),
+        Call::DeclareVarNeedsStackMap { variable } => (MARK, Operands::Variable(*variable)),
+        Call::DeclareValueNeedsStackMap { value } => (RECORD, Operands::Answer(*value)),
         Call::DefVar { variable, value } => ("def_var", Operands::Definition(*variable, *value)),
         Call::UseVar { variable } => ("use_var", Operands::Variable(*variable)),
         Call::TryDefVar { variable, value } => (
@@ -662,9 +683,8 @@ fn parts(call: &Call) -> (&'static str, Operands<'_>)
     }
 }
 
-/// A call as a line of a script, without the line's end. It is printed with `$P.K` for each answer, `varN` for
-/// each variable, `ssN` for each stack slot, `jtN` for each jump table, `extableN` for each exception table, `sigN` for each
-/// signature and `fnN` for each function, so it needs no names. The region of a load or a store is written as it is printed, though no script can name it.
+/// A call as a line of a script, without the line's end. It is printed with `$P.K` for each answer and `varN` for each variable, so
+/// it needs no names. The region of a load or a store is written as it is printed, though no script can name it.
 #[derive(Clone, Copy)]
 pub struct CallText<'a>(pub &'a Call);
 

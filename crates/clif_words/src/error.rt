@@ -92,6 +92,10 @@ pub enum Expected {
     CallConv,
     /// The width of a pointer.
     PointerWidth,
+    /// The number of an item of an exception table, in 32 bits.
+    ItemNumber,
+    /// How a collector moves.
+    Moves,
     /// `(`.
     Open,
     /// A value or `)`.
@@ -160,6 +164,8 @@ impl fmt::Display for Expected {
             Expected::LibCall => "Memcpy, Memmove, Memset or Memcmp",
             Expected::CallConv => "a convention",
             Expected::PointerWidth => "16, 32 or 64",
+            Expected::ItemNumber => "the number of an item",
+            Expected::Moves => "add, one or events",
             Expected::Open => "(",
             Expected::ValueOrClose => "a value or )",
             Expected::TypeOrClose => "a type or )",

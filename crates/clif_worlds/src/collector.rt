@@ -1,9 +1,10 @@
-//! What moves at an outside call of a function, and what becomes of its bits.
+//! What moves at an outside call, and what becomes of its bits.
 use crate::error::Cause;
 use crate::outside::cut;
+use clif_calls::Moves;
 use clif_ir::Function;
 use clif_opcodes::StackOpcode;
-use clif_operations::{Fault, Operation, Outcome, Store, Typed, carry_out, kept};
+use clif_operations::{Fault, Operation, Outcome, SlotRange, Store, Typed, carry_out, kept};
 use clif_types::{EntityRef, EntitySet, Type, UserStackMapEntry, Value};
 use std::alloc::Global;
 
@@ -19,8 +20,17 @@ pub enum Mover {
 }
 
 impl Mover {
-    // What becomes of the bits of a type at the last of so many outside calls.
-    fn moved(self, ty: Type, bits: u128, calls: usize) -> u128 {
+    /// As a script says it.
+    pub fn of(moves: Moves) -> Mover {
+        match moves {
+            Moves::Add(distance) => Mover::Adds(i128::from(distance).cast_unsigned()),
+            Moves::One => Mover::MakesOne,
+            Moves::Events => Mover::AddsCalls,
+        }
+    }
+
+    /// What becomes of the bits of a type at the last of so many outside calls.
+    pub fn moved(self, ty: Type, bits: u128, calls: usize) -> u128 {
         if bits == 0 {
             return 0;
         }
@@ -100,7 +110,25 @@ fn access(
     }
 }
 
-/// What an outside call moves, behind its arguments and before what it gives. Calls of the C library move nothing.
+/// What a script is run beside: a collector, and a finished function that keeps in stack slots what this moves.
+#[derive(Clone, Copy)]
+pub struct Beside<'a> {
+    /// What becomes of marked variables and of tracked names at an outside call, behind its arguments and before what it gives, if
+    /// anything does.
+    pub mover: Option<Mover>,
+    /// The stack slots of the function that no call of the script made. No access of the script touches them.
+    pub hidden: &'a [SlotRange],
+}
+
+impl Beside<'_> {
+    /// Nothing moves, and nothing is hidden.
+    pub const NOTHING: Beside<'static> = Beside {
+        mover: None,
+        hidden: &[],
+    };
+}
+
+/// What an outside call of a function moves, behind its arguments and before what it gives. Calls of the C library move nothing.
 #[derive(Clone, Copy)]
 pub enum Collector<'a> {
     /// Nothing.

@@ -54,12 +54,16 @@ pub enum Cause {
     NotGiven(Operand),
     /// A value of another type is assigned to this variable.
     Assigned(Operand),
+    /// A tracked name is assigned to this variable, or answered by a use of it, which isn't marked.
+    Unmarked(Operand),
     /// The arguments of an edge don't have the types of its target's parameters.
     Edge,
     /// The operands of a call don't have the types of its signature's parameters.
     CallArguments,
     /// The instruction calls a function that wasn't imported.
     NoFunction,
+    /// A call throws, and has no item of this number.
+    NoItem(usize),
 }
 
 impl Cause {
@@ -67,6 +71,7 @@ impl Cause {
     pub fn is_limit(self) -> bool {
         match self {
             Cause::Fault(fault) => fault.is_limit(),
+            Cause::NoItem(_) => true,
             _ => false,
         }
     }
@@ -109,6 +114,11 @@ impl fmt::Display for Cause {
                 f,
                 "a value of another type is assigned to {operand}"
             ),
+            Cause::Unmarked(operand) => write!(
+                f,
+                "{operand} isn't marked, and what it holds may move"
+            ),
+            Cause::NoItem(number) => write!(f, "a call throws, and has no item {number}"),
             cause => f.write_str(cause.text()),
         }
     }

@@ -8,8 +8,8 @@ pub mod error;
 pub mod outside;
 pub mod run;
 
-pub use clif_operations::{Fault, Memory};
-pub use collector::{Collector, Mover};
+pub use clif_operations::{Fault, Memory, SlotRange};
+pub use collector::{Beside, Collector, Mover};
 pub use error::{Cause, Operand, Place, RunError, Told};
 pub use outside::{Callee, Event, Outside};
 pub use run::{Choices, End, Ending, STEPS, World};

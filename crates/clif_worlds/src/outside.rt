@@ -49,7 +49,7 @@ impl fmt::Display for Event {
 /// What lies outside. It answers each call by the events so far, of which the call itself is the last.
 pub trait Outside {
     /// Which of so many items with an edge a try call goes along, from 0 on, where it throws; `None` where it returns.
-    /// A call without such items returns.
+    /// Where there is no such item, also since it is no try call, the run can't go on.
     fn thrown(&self, events: &[Event], items: usize) -> Option<usize>;
 
     /// The bits of what is returned or thrown at a place, from 0 on. They are cut to its type.
@@ -116,7 +116,7 @@ pub fn cut(ty: Type, bits: u128) -> u128 {
 ///
 /// # Errors
 ///
-/// Where memory is refused.
+/// Where it throws to an item that isn't there, and where memory is refused.
 pub fn show<O: Outside>(
     outside: &O,
     events: &mut Vec<Event>,
@@ -127,7 +127,10 @@ pub fn show<O: Outside>(
     events.push(event)?;
     let thrown = outside.thrown(events.as_slice(), items);
     outside.change(events.as_slice(), memory);
-    Ok(thrown.filter(|item| *item < items))
+    match thrown {
+        Some(item) if item >= items => Err(Cause::NoItem(item)),
+        _ => Ok(thrown),
+    }
 }
 
 /// What a function of the C library gives, called by this signature: it does its work.

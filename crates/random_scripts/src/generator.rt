@@ -1,19 +1,19 @@
 //! Random scripts whose runs all end, and name nothing before it is given.
 //!
 //! A script has one variable that counts blocks down, and traps when there are no more, and others that it uses and
-//! assigns at random. A block names its parameter and what was given in it. A block isn't sealed before the last block
-//! is filled that may lead to it.
+//! assigns at random, of which some are marked. A block names its parameter and what was given in it, and asks for stack maps for
+//! some of that. A block isn't sealed before the last block is filled that may lead to it.
 mod helpers;
+mod marks;
 mod steps;
 mod switches;
 mod terminators;
 
-use clif_calls::{Call, EntryCall, Name, PlainInstruction};
+use crate::generator::marks::Given;
+use clif_calls::{Call, EntryCall, ImportedFunction, Name, PlainInstruction};
 use clif_records::Variable;
 use clif_types::types::I64;
-use clif_types::{
-    AbiParam, CallConv, EntityRef, ExtFuncData, ExternalName, SigRef, Signature, TrapCode,
-};
+use clif_types::{AbiParam, CallConv, ExternalName, Signature, TrapCode};
 use rand::seq::IndexedRandom;
 use rand::{RngExt, SeedableRng};
 use rand_pcg::Pcg32;
@@ -45,15 +45,17 @@ struct Generator {
     random: Pcg32,
     calls: Vec<Call>,
     targets: Vec<Target>,
-    // what was given in the current block, beside `first`
-    values: Vec<Name>,
+    // for each variable whether it is marked
+    marked: Vec<bool>,
+    // what was given in the current block
+    values: Vec<Given>,
     // what was given first in the current block
     first: Name,
     // the target that is sealed behind all blocks
     open: Name,
-    // how many tables there are, a few at most for each block
-    jump_tables: u8,
-    exception_tables: u8,
+    // the function that is called, and its signature
+    function: Name,
+    signature: Name,
 }
 
 /// What each function takes and returns.
@@ -85,11 +87,12 @@ pub fn random_script(alloc: Global, seed: u64) -> Result<Vec<Call>, AllocError> 
         random: Pcg32::seed_from_u64(seed),
         calls: Vec::new(alloc),
         targets: Vec::new(alloc),
+        marked: Vec::new(alloc),
         values: Vec::new(alloc),
         first: nowhere,
         open: nowhere,
-        jump_tables: 0,
-        exception_tables: 0,
+        function: nowhere,
+        signature: nowhere,
     };
     generator.declare()?;
     let entry = generator.call(Call::CreateBlock)?;
@@ -124,7 +127,7 @@ impl Generator {
     // One of the values that were given in the current block.
     fn value(&mut self) -> Name {
         match self.values.as_slice().choose(&mut self.random) {
-            Some(value) => *value,
+            Some(given) => given.name,
             None => self.first,
         }
     }
@@ -132,17 +135,15 @@ impl Generator {
     // The signature, the function that is called, and the variables.
     fn declare(&mut self) -> Result<(), AllocError> {
         let signature = signature(self.alloc)?;
-        self.call(Call::Entry(EntryCall::ImportSignature(signature)))?;
-        self.call(Call::Entry(EntryCall::ImportFunction(ExtFuncData {
+        let signature = self.call(Call::Entry(EntryCall::ImportSignature(signature)))?;
+        self.signature = signature;
+        self.function = self.call(Call::Entry(EntryCall::ImportFunction(ImportedFunction {
             name: ExternalName::user(0, 1),
-            signature: SigRef::new(0),
+            signature,
             colocated: false,
             patchable: false,
         })))?;
-        for _ in 0..VARIABLES {
-            self.call(Call::DeclareVar { ty: I64 })?;
-        }
-        Ok(())
+        self.declare_variables()
     }
 
     // The blocks that branches lead to, with a parameter each.
@@ -168,7 +169,7 @@ impl Generator {
         self.call(Call::SwitchToBlock { block: entry })?;
         self.call(Call::SealBlock { block: entry })?;
         self.begin(params)?;
-        self.values.push(Name {
+        self.give(Name {
             place: params.place,
             answer: 1,
         })?;
@@ -197,8 +198,7 @@ impl Generator {
     fn begin(&mut self, first: Name) -> Result<(), AllocError> {
         self.first = first;
         self.values.clear();
-        self.values.push(first)?;
-        Ok(())
+        self.give(first)
     }
 
     // One block fewer may be entered.

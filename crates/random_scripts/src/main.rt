@@ -1,6 +1,7 @@
-//! `random_scripts SEED COUNT` makes COUNT scripts with outside calls and memory helpers, of the seeds from SEED on, and builds a
-//! function of each. The script and its function run side by side in three worlds, on the two interpreters of
-//! `clif_interpreter`. It prints that they agree, and fails where two runs differ, or where too few of them show anything.
+//! `random_scripts SEED COUNT` makes COUNT scripts with outside calls, memory helpers and marks for stack maps, of the seeds from
+//! SEED on, and builds a function of each. The script and its function run side by side in six worlds, of which three move what is
+//! tracked, on the two interpreters of `clif_interpreter`. It prints that they agree, and fails where two runs differ, or where too
+//! few of them show anything.
 #![tactic(auto)]
 
 mod generator;
@@ -29,7 +30,7 @@ fn main(rt: HostRuntime) -> ExitCode {
         let _ = eprintln!(rt; "too little happens: {tally}");
         return ExitCode::from(1);
     }
-    let _ = println!(rt; "{count} scripts and their functions agree in 3 worlds");
+    let _ = println!(rt; "{count} scripts and their functions agree in 6 worlds");
     ExitCode::from(0)
 }
 

@@ -2,14 +2,15 @@
 ghost use Rattle.std.specs.Prelude.{◌≡◌};
 
 use crate::generator::{random_script, signature};
-use crate::worlds::{Answering, SIZE, START};
+use crate::worlds::{Answering, SIZE, SLOTS, SLOTS_SIZE, START};
 use clif_builder::FunctionBuilderContext;
 use clif_calls::Call;
-use clif_interpreter::{function, script};
+use clif_interpreter::function::{run_collected, slots_behind};
+use clif_interpreter::script::run_beside;
 use clif_ir::Function;
 use clif_replay::{ReplayError, replay};
 use clif_types::{CallConv, PointerWidth, Signature, TargetFrontendConfig, UserFuncName};
-use clif_worlds::{End, Ending, Memory, RunError, World};
+use clif_worlds::{Beside, Collector, End, Ending, Memory, Mover, RunError, World};
 use std::alloc::{AllocError, Global};
 use std::fmt;
 
@@ -71,6 +72,8 @@ pub struct Tally {
     pub thrown: u64,
     /// Scripts whose run differs where calls write to memory.
     pub written: u64,
+    /// Scripts whose run differs where calls move what is tracked.
+    pub moved: u64,
 }
 
 impl Tally {
@@ -81,6 +84,7 @@ impl Tally {
             && self.called >= bound
             && self.thrown >= bound
             && self.written >= bound
+            && self.moved >= bound
     }
 
     // A run ended so.
@@ -104,7 +108,8 @@ impl fmt::Display for Tally {
         write!(f, "{returned} returned, {trapped} trapped, {called} called")?;
         let thrown = self.thrown;
         let written = self.written;
-        write!(f, ", {thrown} thrown, {written} written")
+        let moved = self.moved;
+        write!(f, ", {thrown} thrown, {written} written, {moved} moved")
     }
 }
 
@@ -117,37 +122,33 @@ pub fn try_script(alloc: Global, seed: u64, tally: &mut Tally) -> Result<(), Fai
     let calls = random_script(alloc, seed)?;
     let signature = signature(alloc)?;
     let func = built(alloc, calls.as_slice(), &signature)?;
-    let counting = run(
+    let pair = Pair {
         alloc,
-        calls.as_slice(),
-        &signature,
-        &func,
-        Answering::Counting,
-    )?;
-    let throwing = run(
-        alloc,
-        calls.as_slice(),
-        &signature,
-        &func,
-        Answering::Throwing,
-    )?;
-    let writing = run(
-        alloc,
-        calls.as_slice(),
-        &signature,
-        &func,
-        Answering::Writing,
-    )?;
-    tally.count(&counting);
-    tally.count(&throwing);
-    tally.count(&writing);
-    if throwing.end != counting.end || throwing.events != counting.events {
-        tally.thrown = tally.thrown.saturating_add(1);
-    }
-    if writing.end != counting.end || writing.events != counting.events {
-        tally.written = tally.written.saturating_add(1);
-    }
+        calls: calls.as_slice(),
+        signature: &signature,
+        func: &func,
+    };
+    let counting = pair.run(Answering::Counting, None, tally)?;
+    let throwing = pair.run(Answering::Throwing, None, tally)?;
+    let writing = pair.run(Answering::Writing, None, tally)?;
+    let moving = pair.run(Answering::Counting, Some(Mover::Adds(16)), tally)?;
+    pair.run(Answering::Throwing, Some(Mover::AddsCalls), tally)?;
+    pair.run(Answering::Writing, Some(Mover::MakesOne), tally)?;
+    tally.thrown = tally
+        .thrown
+        .saturating_add(u64::from(differs(&throwing, &counting)));
+    tally.written = tally
+        .written
+        .saturating_add(u64::from(differs(&writing, &counting)));
+    tally.moved = tally
+        .moved
+        .saturating_add(u64::from(differs(&moving, &counting)));
     Ok(())
+}
+
+// Whether two runs show other calls, or end otherwise.
+fn differs(one: &Ending, other: &Ending) -> bool {
+    one.end != other.end || one.events != other.events
 }
 
 // The function of a script.
@@ -160,29 +161,63 @@ fn built(alloc: Global, calls: &[Call], signature: &Signature) -> Result<Functio
     }
 }
 
-// How a script and its function end in a world, where they end alike.
-fn run(
+/// A script and its function.
+#[derive(Clone, Copy)]
+struct Pair<'a> {
     alloc: Global,
-    calls: &[Call],
-    signature: &Signature,
-    func: &Function,
-    outside: Answering,
-) -> Result<Ending, Failure> {
-    let memory = Memory::zeros(alloc, START, SIZE)?;
-    let world = World {
-        arguments: &ARGUMENTS,
-        memory: &memory,
-        pointer_width: CONFIG.pointer_width,
-        slots: START,
-        outside: &outside,
-        is_traced: false,
-    };
-    let expected = ended(script::run(alloc, calls, signature, &world, STEPS))?;
-    let ending = ended(function::run(alloc, func, &world, STEPS))?;
-    if ending != expected {
-        return Err(Failure::Differs);
+    calls: &'a [Call],
+    signature: &'a Signature,
+    func: &'a Function,
+}
+
+impl Pair<'_> {
+    // How both end in a world that moves, or moves nothing, where they end alike.
+    fn run(
+        self,
+        outside: Answering,
+        mover: Option<Mover>,
+        tally: &mut Tally,
+    ) -> Result<Ending, Failure> {
+        let alloc = self.alloc;
+        let memory = Memory::zeros(alloc, START, SIZE + SLOTS_SIZE)?;
+        let world = World {
+            arguments: &ARGUMENTS,
+            memory: &memory,
+            pointer_width: CONFIG.pointer_width,
+            slots: SLOTS,
+            outside: &outside,
+            is_traced: false,
+        };
+        let hidden = match slots_behind(alloc, self.func, &world, 0) {
+            Ok(hidden) => hidden,
+            Err(error) => return Err(Failure::NotRun(error)),
+        };
+        let hidden = hidden.as_slice();
+        let beside = Beside { mover, hidden };
+        let expected = ended(run_beside(
+            alloc,
+            self.calls,
+            self.signature,
+            &world,
+            &beside,
+            STEPS,
+        ))?;
+        let collector = match mover {
+            Some(mover) => Collector::ByMaps(mover),
+            None => Collector::Nothing,
+        };
+        let ending = match run_collected(alloc, self.func, &world, collector, STEPS) {
+            Ok((ending, _)) => ended(Ok(ending))?,
+            Err(error) => return Err(Failure::NotRun(error)),
+        };
+        if differs(&ending, &expected)
+            || expected.memory.first_difference(&ending.memory).is_some()
+        {
+            return Err(Failure::Differs);
+        }
+        tally.count(&ending);
+        Ok(ending)
     }
-    Ok(ending)
 }
 
 // How a run ended, if it did.

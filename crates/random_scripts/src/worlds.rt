@@ -1,8 +1,14 @@
 //! The worlds that scripts run in.
 use clif_worlds::{Event, Memory, Outside};
 
-/// How many bytes are accessible, from [`START`] on.
+/// How many bytes scripts access, from [`START`] on.
 pub const SIZE: usize = 64;
+
+/// The address from which on stack slots lie, behind those bytes.
+pub const SLOTS: u64 = START + SIZE as u64;
+
+/// How many bytes there are for stack slots.
+pub const SLOTS_SIZE: usize = 4096;
 
 /// The address of the first accessible byte.
 pub const START: u64 = 4096;

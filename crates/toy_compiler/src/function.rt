@@ -2,10 +2,10 @@
 use crate::error::{Fault, ToyError};
 use crate::parser::Parser;
 use crate::program::{Header, signature_of};
-use clif_calls::{Call, Edge, EntryCall, Name, OutsideCall, PlainInstruction};
+use clif_calls::{Call, Edge, EntryCall, ImportedFunction, Name, OutsideCall, PlainInstruction};
 use clif_records::Variable;
+use clif_types::ExternalName;
 use clif_types::types::I64;
-use clif_types::{EntityRef, ExtFuncData, ExternalName, FuncRef, SigRef};
 use std::alloc::Global;
 
 /// A variable of the language, and the builder's that holds it.
@@ -13,6 +13,13 @@ use std::alloc::Global;
 struct Local<'a> {
     name: &'a str,
     variable: Variable,
+}
+
+// A function that was imported.
+#[derive(Clone, Copy)]
+struct Imported<'a> {
+    name: &'a str,
+    function: Name,
 }
 
 /// A function while it is read: the words, the calls so far, and what is in scope.
@@ -28,7 +35,7 @@ pub(crate) struct Compiler<'t, 'a> {
     // how many variables were declared
     variables: usize,
     // the functions that were called so far, each with a signature of its own
-    imported: Vec<&'a str>,
+    imported: Vec<Imported<'a>>,
     /// Whether there is a current block that has no terminator yet, so that what comes next can be reached.
     pub(crate) is_open: bool,
     /// Whether memory was refused to a call of the list, so that the calls aren't those of the function. It is asked once,
@@ -182,40 +189,31 @@ impl<'t, 'a> Compiler<'t, 'a> {
         name: &'a str,
         args: Vec<Name>,
     ) -> Result<Name, ToyError<'a>> {
-        let known = self.imported.iter().position(|other| *other == name);
-        let number = known.unwrap_or(self.imported.len());
-        if number >= 0xffff_fffe {
-            return Err(self.parser.fault(Fault::Full));
-        }
-        if known.is_none() {
-            self.import(name, args.len(), SigRef::new(number))?;
-        }
-        let function = FuncRef::new(number);
+        let known = self.imported.iter().find(|known| known.name == name);
+        let function = match known {
+            Some(known) => known.function,
+            None => self.import(name, args.len())?,
+        };
         let call = Call::Outside(OutsideCall::Call { function, args });
         let place = self.call(call).place;
         Ok(Name { place, answer: 1 })
     }
 
-    // Imports a function with so many parameters, by a signature that has this number.
-    fn import(
-        &mut self,
-        name: &'a str,
-        parameters: usize,
-        signature: SigRef,
-    ) -> Result<(), ToyError<'a>> {
+    // Imports a function with so many parameters, with its signature.
+    fn import(&mut self, name: &'a str, parameters: usize) -> Result<Name, ToyError<'a>> {
         let shape = signature_of(self.alloc, parameters)?;
-        self.call(Call::Entry(EntryCall::ImportSignature(shape)));
+        let signature = self.call(Call::Entry(EntryCall::ImportSignature(shape)));
         let mut text = String::new(self.alloc);
         text.push_str(name)?;
-        let function = ExtFuncData {
+        let function = ImportedFunction {
             name: ExternalName::testcase(text),
             signature,
             colocated: false,
             patchable: false,
         };
-        self.call(Call::Entry(EntryCall::ImportFunction(function)));
-        self.imported.push(name)?;
-        Ok(())
+        let function = self.call(Call::Entry(EntryCall::ImportFunction(function)));
+        self.imported.push(Imported { name, function })?;
+        Ok(function)
     }
 
     /// How many variables are in scope.

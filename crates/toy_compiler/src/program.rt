@@ -131,7 +131,11 @@ fn take_answer<'a>(
         size
     })?;
     let callee = UserFuncName::testcase(String::from_str(alloc, name)?);
-    Ok(OutsideAnswer { callee, values })
+    Ok(OutsideAnswer {
+        callee,
+        item: None,
+        values,
+    })
 }
 
 // The headers of all functions, so that each function may call each other.

@@ -5,8 +5,7 @@ use Rattle.clif_instructions.specs.declared.block_call.BlockArg.TheVariants.{Val
 use Rattle.clif_ir.specs.Body.{Body}
 use Rattle.clif_paths.specs.State.{Kind, unborn, born, pending, complete, zero_of}
 use Rattle.clif_ssa.specs.Sound.{IsBehind, IsCounted}
-use Rattle.clif_records.specs.Tables.{is_yes}
-use Rattle.clif_records.specs.declared.tables.Sealed.TheVariants.{No}
+use Rattle.clif_records.specs.Tables.{No, is_yes}
 use Rattle.clif_meaning.specs.Instruction.{Operation, Compute, Iconst, Brif, Edge}
 use Rattle.clif_meaning.specs.FunctionView.{Placed}
 use Rattle.clif_meaning.specs.View.{argument_of}

@@ -5,10 +5,8 @@ use Rattle.clif_ir.specs.Body.{Body, block_at}
 use Rattle.clif_ssa.specs.Own.{Own}
 use Rattle.clif_ssa.specs.Ssa.{SsaState, sealed_of, predecessors_of}
 use Rattle.clif_ssa.specs.Structured.{VariableTypes, Structured, waiting_of, waiting_in}
-use Rattle.clif_records.specs.Tables.{is_yes, pending_of}
+use Rattle.clif_records.specs.Tables.{No, Sealed, Yes, is_yes, pending_of}
 use Rattle.clif_records.specs.declared.tables.Pending.{Pending}
-use Rattle.clif_records.specs.declared.tables.Sealed.{Sealed}
-use Rattle.clif_records.specs.declared.tables.Sealed.TheVariants.{No, Yes}
 use Rattle.clif_meaning.specs.Request.{AnsweredCall}
 use Rattle.clif_simulation.specs.Carries.{NothingLeads, OwnParameters}
 use Rattle.clif_simulation.specs.Structure.{HasCallersAlone, HasCallersParameters, KeepsNoParameter, LeavesFewParameters, LeavesNoParameter, NoneWaits}

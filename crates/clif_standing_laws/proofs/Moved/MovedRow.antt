@@ -1,6 +1,6 @@
 -- The function of the worked example is consistent, carries its calls, and is finished; where the parameter isn't recorded it carries
 -- others.
-use Rattle.std.proofs.Common.{rules, ◌≡◌, inr, ℕ, zero, suc, ◌+◌, ◌<◌, ◌==◌, true, false, List, [], ◌∷◌, ◌++◌, slice_get, Some, None, refl, arith}
+use Rattle.std.proofs.Common.{rules, ◌≡◌, ◌⊎◌, inl, inr, sym, ◌∙◌, ap, ℕ, zero, suc, ◌+◌, ◌<◌, ◌==◌, true, false, List, [], ◌∷◌, ◌++◌, slice_get, Some, None, refl, arith}
 use Rattle.std.specs.Prelude.{All, if◌then◌else◌, slice_index}
 use Rattle.std.specs.FinMap as map
 use Rattle.std.proofs.lemmas.Bool.Decides.{nat_tests}
@@ -12,6 +12,7 @@ use Rattle.clif_instructions.specs.declared.insert_at.InsertAt.TheVariants.{Back
 use Rattle.clif_instructions.specs.declared.instructions.InstructionData.TheVariants as shape
 use Rattle.clif_tables.specs.Entries.{AFunction, ASignature}
 use Rattle.clif_tables.specs.Lists.{TableLists, no_entries}
+use Rattle.clif_nodes.specs.Nodes.{result_nodes}
 use Rattle.clif_ir.specs.Body.{Body, empty_body}
 use Rattle.clif_ir.specs.Changes.{inserted_in, with_block}
 use Rattle.clif_ir.specs.Consistent.{EntryExists, IsConsistent}
@@ -20,8 +21,7 @@ use Rattle.clif_ir.proofs.KeepsInst.{with_inst_consistent}
 use Rattle.clif_ir.proofs.KeepsParam.{with_param_consistent}
 use Rattle.clif_ir.proofs.KeepsPlaces.{with_order_consistent}
 use Rattle.clif_ir.proofs.Linking.{empty_consistent}
-use Rattle.clif_records.specs.declared.tables.Sealed.TheVariants.{Yes}
-use Rattle.clif_records.specs.Tables.{is_yes, pending_of}
+use Rattle.clif_records.specs.Tables.{Yes, is_yes, pending_of}
 use Rattle.clif_records.specs.Tracking.{marked_of, sets}
 use Rattle.clif_records.proofs.RecordMaps.{record_at-empty, record_at-insert}
 use Rattle.clif_ssa.specs.Sound.{EntryIsFree, entry_of}
@@ -39,11 +39,11 @@ use Rattle.clif_meaning.specs.Examples.{i32, invalid}
 use Rattle.clif_meaning.specs.Instruction.{Instruction, Return}
 use Rattle.clif_meaning.specs.Ledger.{is_marked, ledger_after}
 use Rattle.clif_meaning.specs.Name.{Name}
-use Rattle.clif_meaning.specs.Request.{AnsweredCall, AppendFunctionParams, Build, CreateBlock, DeclareVar, DefVar, GivenEntry, Imported, MakeEntry, NeedStackMap, OfVariable, SealBlock, SwitchToBlock, UseVar, script_of}
+use Rattle.clif_meaning.specs.Request.{AnsweredCall, AppendFunctionParams, Build, CreateBlock, DeclareVar, DefVar, GivenEntry, Imported, MakeEntry, NeedStackMap, OfValue, OfVariable, Request, SealBlock, SwitchToBlock, UseVar, script_of}
 use Rattle.clif_simulation.specs.CallCarryingExamples.{call_instruction, callee_signature, with_callee}
 use Rattle.clif_simulation.specs.Carries.{Carries, IsCurrent, SoundOnPaths, with_params}
 use Rattle.clif_simulation.specs.Laws.{IsFinished}
-use Rattle.clif_simulation.specs.Tables.{block_name}
+use Rattle.clif_simulation.specs.Tables.{answered, block_name}
 use Rattle.clif_simulation.proofs.Beginning.{carries_nothing}
 use Rattle.clif_simulation.proofs.Building.{carries_plain}
 use Rattle.clif_simulation.proofs.Calls.{carries_assigned, carries_created, carries_declared, carries_needing, carries_sealed, carries_switched, carries_used, structured_so_far}
@@ -51,6 +51,13 @@ use Rattle.clif_simulation.proofs.FreeEntry.{free_first}
 use Rattle.clif_simulation.proofs.Further.{carries_tables}
 use Rattle.clif_simulation.proofs.ParameterCalls.{carries_params}
 use Rattle.clif_simulation.proofs.Values.{false_is}
+use Rattle.clif_builder.specs.Recorded.{RecordsExactly, WasMadeForMarked}
+use Rattle.clif_builder.proofs.BlockValues.{parameters_front}
+use Rattle.clif_builder.proofs.Exactly.{exactly_assigned, exactly_needing, exactly_quiet, nothing_recorded}
+use Rattle.clif_simulation.proofs.Listed.{all_at}
+use Rattle.clif_simulation.specs.Tracks.{IsAskedFor}
+use Rattle.clif_meaning.specs.Acceptance.{return_}
+use Rattle.std.specs.List.{AllByRecursion}
 use Rattle.clif_standing_laws.specs.MovingExamples.{moved_block, moved_body, moved_called, moved_calls, moved_signature, moved_state, moved_state_with, the_callee, the_parameter, the_use}
 
 -- Consistent --------------------------------------------------------------------------------------------------------------
@@ -327,3 +334,91 @@ unrecorded carries =
     let s : SsaState = moved_state_with (sets (0 ∷ []) []) in
     let p : SoundOnPaths moved_calls carries.own moved_body s = carries.on_paths (free s refl) in
     false_is (p.tracked.asked 0 (record { name = the_parameter; answers = refl; how = inr (0, (8, refl), refl) }))
+
+-- Exactly what is recorded --------------------------------------------------------------------------------------------------
+
+one_exactly : RecordsExactly one_call [] no_state
+one_exactly = exactly_quiet [] (record { request = CreateBlock; numbers = 0 ∷ [] }) [] no_state nothing_recorded [] no_state tt (λ v is. is) (λ x b. refl) refl
+
+two_exactly : RecordsExactly two_calls moved_block.values no_state
+two_exactly = exactly_quiet one_call parameter_call [] no_state one_exactly moved_block.values no_state tt (parameters_front [] moved_block.values) (λ x b. refl) refl
+
+three_exactly : RecordsExactly three_calls moved_block.values no_state
+three_exactly =
+    exactly_quiet two_calls (record { request = DeclareVar i64; numbers = 0 ∷ [] }) moved_block.values no_state two_exactly moved_block.values no_state tt (λ v is. is)
+    (λ x b. refl) refl
+
+four_exactly : RecordsExactly four_calls moved_block.values marked_state
+four_exactly =
+    exactly_needing three_calls (record { request = NeedStackMap (OfVariable 0); numbers = [] }) moved_block.values no_state three_exactly marked_state (OfVariable 0) refl
+    (record_at-empty 0, refl) (λ x b. refl)
+
+five_exactly : RecordsExactly five_calls moved_block.values marked_state
+five_exactly =
+    exactly_quiet four_calls (record { request = MakeEntry (ASignature callee_signature); numbers = 0 ∷ [] }) moved_block.values marked_state four_exactly
+    moved_block.values marked_state tt (λ v is. is) (λ x b. refl) refl
+
+six_exactly : RecordsExactly six_calls moved_block.values marked_state
+six_exactly =
+    exactly_quiet five_calls (record { request = MakeEntry (AFunction the_callee); numbers = 0 ∷ [] }) moved_block.values marked_state five_exactly
+    moved_block.values marked_state tt (λ v is. is) (λ x b. refl) refl
+
+seven_exactly : RecordsExactly seven_calls moved_block.values marked_state
+seven_exactly =
+    exactly_quiet six_calls (record { request = SwitchToBlock (block 0); numbers = [] }) moved_block.values marked_state six_exactly
+    moved_block.values marked_state tt (λ v is. is) (λ x b. refl) refl
+
+eight_exactly : RecordsExactly eight_calls moved_block.values sealed_state
+eight_exactly =
+    exactly_quiet seven_calls (record { request = SealBlock (block 0); numbers = [] }) moved_block.values marked_state seven_exactly
+    moved_block.values sealed_state tt (λ v is. is) (λ x b. refl) refl
+
+nine_exactly : RecordsExactly nine_calls moved_block.values moved_state
+nine_exactly =
+    exactly_assigned eight_calls (record { request = DefVar 0 the_parameter; numbers = [] }) moved_block.values sealed_state eight_exactly
+    moved_state 0 0 the_parameter 0 refl refl refl refl records
+
+ten_exactly : RecordsExactly ten_calls moved_called.values moved_state
+ten_exactly =
+    exactly_quiet nine_calls (record { request = Build import call_instruction; numbers = 0 ∷ 1 ∷ [] }) moved_block.values moved_state nine_exactly
+    moved_called.values moved_state tt (parameters_front moved_block.values (result_nodes 0 0 (i32 ∷ []))) (λ x b. refl) refl
+
+eleven_exactly : RecordsExactly eleven_calls moved_called.values moved_state
+eleven_exactly =
+    exactly_quiet ten_calls (record { request = UseVar 0; numbers = 0 ∷ [] }) moved_called.values moved_state ten_exactly
+    moved_called.values moved_state tt (λ v is. is) (λ x b. refl) refl
+
+pub exactly : RecordsExactly moved_calls moved_body.values moved_state
+exactly =
+    exactly_quiet eleven_calls (record { request = return_ (the_use ∷ []); numbers = 1 ∷ [] }) moved_called.values moved_state eleven_exactly
+    moved_body.values moved_state tt (parameters_front moved_called.values []) (λ x b. refl) refl
+
+-- a set without the parameter
+pub no_less : RecordsExactly moved_calls moved_body.values (moved_state_with (sets (0 ∷ []) [])) → ⊥
+no_less wrong = false_is ((wrong.recorded 0).1 (inl (record { name = the_parameter; answers = refl; how = inr (0, (8, refl), refl) })))
+
+-- no request asks for stack maps for a value, and the parameter alone is assigned
+abbrev NamesParameter : Request → Type 0
+NamesParameter (DefVar variable name) = name ≡ the_parameter
+NamesParameter (NeedStackMap (OfValue name)) = ⊥
+NamesParameter _ = Unit {0}
+
+names_parameter : AllByRecursion NamesParameter (script_of moved_calls)
+names_parameter = (tt, (tt, (tt, (tt, (tt, (tt, (tt, (tt, (refl, (tt, (tt, (tt, tt))))))))))))
+
+-- and one with what the call returned, which is no parameter
+pub no_more : RecordsExactly moved_calls moved_body.values (moved_state_with (sets (0 ∷ []) (0 ∷ 1 ∷ []))) → ⊥
+no_more wrong = by ((wrong.recorded 1).0 refl)
+  where
+    other : (name : Name) → name ≡ the_parameter → answered moved_calls name ≡ 1 → ⊥
+    other name same is = let one : 0 ≡ 1 = sym (ap (answered moved_calls) same) ∙ is in omega (arith, one)
+
+    by : IsAskedFor moved_calls (moved_state_with (sets (0 ∷ []) (0 ∷ 1 ∷ []))) 1
+        ⊎ WasMadeForMarked wrong.made_for (moved_state_with (sets (0 ∷ []) (0 ∷ 1 ∷ []))) 1 → ⊥
+    by (inr made) = (wrong.stands 1 made.0 made.1).is_parameter
+    by (inl asked) =
+        elim asked.how [
+          | inl need ↦ all_at NamesParameter (script_of moved_calls) need.0 (NeedStackMap (OfValue asked.name)) names_parameter need.1
+          | inr assigned ↦
+              other asked.name (all_at NamesParameter (script_of moved_calls) assigned.1.0 (DefVar assigned.0 asked.name) names_parameter assigned.1.1) asked.answers
+        ]

@@ -150,7 +150,7 @@ agrees_with_ledger = record {
   layout = refl;
   variables = record { types = refl; touched = touched };
   tables = refl;
-  tracks = record { marks = MovedRow.marks; untracked = λ nothing. absurd nothing.1.1.1.0 };
+  tracks = record { marks = MovedRow.marks; exactly = MovedRow.exactly; untracked = λ nothing. absurd nothing.1.1.1.0 };
   own = own;
   structured = structured;
   callers_types = callers_types;

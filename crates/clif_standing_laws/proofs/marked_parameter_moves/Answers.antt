@@ -19,4 +19,7 @@ returns c = record {
   means_the_same = MovedRuns.means_the_same;
   forgets = MovedRuns.forgets;
   unrecorded = MovedRow.unrecorded;
+  exactly = MovedRow.exactly;
+  no_less = MovedRow.no_less;
+  no_more = MovedRow.no_more;
 }

@@ -1,10 +1,11 @@
 //! The steps of a block that don't end it.
+use super::marks::Given;
 use super::{Generator, VARIABLES};
 use crate::worlds::START;
 use clif_calls::{Call, ImmediateCall, Name, OutsideCall, PlainInstruction};
 use clif_records::Variable;
 use clif_types::types::I64;
-use clif_types::{EntityRef, FuncRef, IntCC, MemFlagsData, SigRef};
+use clif_types::{IntCC, MemFlagsData};
 use rand::RngExt;
 use rand::seq::IndexedRandom;
 use std::alloc::AllocError;
@@ -19,6 +20,7 @@ enum Step {
     CompareConstant,
     UseVar,
     DefVar,
+    Need,
     Call,
     CallIndirect,
     Load,
@@ -26,14 +28,17 @@ enum Step {
     Help,
 }
 
-const STEPS: [Step; 14] = [
+const STEPS: [Step; 17] = [
     Step::Constant,
     Step::Add,
     Step::Subtract,
     Step::AddConstant,
     Step::CompareConstant,
     Step::UseVar,
+    Step::UseVar,
     Step::DefVar,
+    Step::DefVar,
+    Step::Need,
     Step::Call,
     Step::CallIndirect,
     Step::Load,
@@ -80,21 +85,13 @@ impl Generator {
             }
             Step::AddConstant => self.add_constant(),
             Step::CompareConstant => self.compare_constant(),
-            Step::UseVar => {
-                let variable = self.variable();
-                let value = self.call(Call::UseVar { variable })?;
-                self.give(value)
-            }
-            Step::DefVar => {
-                let variable = self.variable();
-                let value = self.value();
-                self.call(Call::DefVar { variable, value })?;
-                Ok(())
-            }
+            Step::UseVar => self.use_var(),
+            Step::DefVar => self.def_var(),
+            Step::Need => self.need(),
             Step::Call => {
                 let args = self.operands()?;
                 self.outside(OutsideCall::Call {
-                    function: FuncRef::new(0),
+                    function: self.function,
                     args,
                 })
             }
@@ -102,7 +99,7 @@ impl Generator {
                 let args = self.operands()?;
                 let callee = self.value();
                 self.outside(OutsideCall::CallIndirect {
-                    signature: SigRef::new(0),
+                    signature: self.signature,
                     callee,
                     args,
                 })
@@ -137,12 +134,12 @@ impl Generator {
 
     // A value that later steps of the block may name.
     pub(super) fn give(&mut self, value: Name) -> Result<(), AllocError> {
-        self.values.push(value)?;
+        self.values.push(Given::new(value))?;
         Ok(())
     }
 
     // One of the variables that don't count blocks.
-    fn variable(&mut self) -> Variable {
+    pub(super) fn variable(&mut self) -> Variable {
         Variable::new(self.random.random_range(1usize..VARIABLES))
     }
 

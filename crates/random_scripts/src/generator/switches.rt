@@ -1,6 +1,6 @@
 //! Switches, which pass nothing: each of their blocks jumps on to one that has a parameter.
 use super::Generator;
-use clif_calls::{Call, Name, PlainInstruction, SwitchEntry, table_count};
+use clif_calls::{Call, Name, PlainInstruction, SwitchEntry};
 use clif_types::Type;
 use clif_types::types::{I8, I16, I32, I64, I128};
 use rand::RngExt;
@@ -26,10 +26,6 @@ impl Generator {
         let otherwise = self.call(Call::CreateBlock)?;
         let entries = self.entries(blocks.as_slice())?;
         let value = self.switched()?;
-        let tables = table_count(self.alloc, entries.as_slice())?;
-        self.jump_tables = self
-            .jump_tables
-            .saturating_add(u8::try_from(tables).unwrap_or(u8::MAX));
         self.call(Call::Switch {
             entries,
             value,

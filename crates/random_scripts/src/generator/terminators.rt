@@ -2,7 +2,6 @@
 use super::Generator;
 use clif_calls::{Call, Edge, Name, Passed, PlainInstruction, TableEdge, TableItem, ThrowingCall};
 use clif_types::types::I32;
-use clif_types::{EntityRef, ExceptionTable, FuncRef, JumpTable, SigRef};
 use rand::RngExt;
 use rand::seq::IndexedRandom;
 use std::alloc::AllocError;
@@ -51,7 +50,7 @@ impl Generator {
             },
             Terminator::BrTable => self.table_branch(number)?,
             Terminator::TryCall => Call::Throwing(ThrowingCall::TryCall {
-                function: FuncRef::new(0),
+                function: self.function,
                 args: self.operands()?,
                 table: self.exception_table(number)?,
             }),
@@ -109,36 +108,31 @@ impl Generator {
         let second = self.table_edge(number, passed)?;
         let default = self.table_edge(number, passed)?;
         let entries = vec![in self.alloc; first, second]?;
-        self.call(Call::CreateJumpTable { default, entries })?;
-        let table = JumpTable::new(usize::from(self.jump_tables));
-        self.jump_tables = self.jump_tables.saturating_add(1);
+        let table = self.call(Call::CreateJumpTable { default, entries })?;
         let x = self.value();
         let index = self.instruction(PlainInstruction::Ireduce { ty: I32, x })?;
         Ok(Call::BrTable { index, table })
     }
 
-    // An exception table of two items behind a context.
-    fn exception_table(&mut self, number: usize) -> Result<ExceptionTable, AllocError> {
+    // An exception table of two items behind a context, which isn't tracked.
+    fn exception_table(&mut self, number: usize) -> Result<Name, AllocError> {
         let part = self.passed(Passed::Returned(1));
         let normal = self.table_edge(number, part)?;
         let part = self.passed(Passed::Thrown(0));
         let tagged = self.table_edge(number, part)?;
         let part = self.passed(Passed::Thrown(1));
         let other = self.table_edge(number, part)?;
-        let context = TableItem::Context(self.value());
+        let context = TableItem::Context(self.constant(7)?);
         let items = vec![in self.alloc;
             context,
             TableItem::Tag(7, tagged),
             TableItem::Default(other),
         ]?;
-        let signature = SigRef::new(0);
+        let signature = self.signature;
         self.call(Call::CreateExceptionTable {
             signature,
             normal,
             items,
-        })?;
-        let table = ExceptionTable::new(usize::from(self.exception_tables));
-        self.exception_tables = self.exception_tables.saturating_add(1);
-        Ok(table)
+        })
     }
 }

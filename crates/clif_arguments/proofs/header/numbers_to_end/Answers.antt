@@ -5,7 +5,7 @@ use Rattle.clif_arguments.proofs.header.numbers_to_end.Goals as goal
 pub loop-words-preserved : goal.loop-words-preserved
 loop-words-preserved c =
     subst (λ numbers. TakesNumbers c.args.words.now c.take.new.self numbers) (sym (c.in_ok-push.ensures.items ∙ ap (λ number. c.loop-words.values.items ++ number ∷ []) (search rules)))
-    (takes_one_number c.args.words.now c.loop-words.words c.take.new.self c.loop-words.values.items c.in_ok-word.word.now c.in-Some.value c.loop-words.invariant c.in_ok-word.ensures.ok c.in-Some.ensures)
+    (takes_one_number c.args.words.now c.loop-words.words c.take.new.self c.loop-words.values.items c.in_ok-word.word.now c.in_ok-number_of.field-0 c.loop-words.invariant c.in_ok-word.ensures.ok c.in_ok-number_of.ensures)
 
 pub returns : goal.returns
 returns c = takes_all_numbers c.args.words.now c.loop-words.words c.loop-words.values.items c.loop-words.invariant (c.is_empty.ensures.0 (search rules))

@@ -62,6 +62,12 @@ returns-in-CreateExceptionTable c =
 pub returns-in-DeclareVar : goal.returns-in-DeclareVar
 returns-in-DeclareVar c = subst (λ (x : Call). MakesScriptCall c.args.config x c.args.builder.now c.declare_var.new.builder c.args.answers.now c.declare_var.result) (sym c.in-DeclareVar.is) c.declare_var.ensures
 
+pub returns-in-DeclareVarNeedsStackMap : goal.returns-in-DeclareVarNeedsStackMap
+returns-in-DeclareVarNeedsStackMap c = subst (λ (x : Call). MakesScriptCall c.args.config x c.args.builder.now c.declare_var_needs_stack_map.new.builder c.args.answers.now c.declare_var_needs_stack_map.result) (sym c.in-DeclareVarNeedsStackMap.is) c.declare_var_needs_stack_map.ensures
+
+pub returns-in-DeclareValueNeedsStackMap : goal.returns-in-DeclareValueNeedsStackMap
+returns-in-DeclareValueNeedsStackMap c = subst (λ (x : Call). MakesScriptCall c.args.config x c.args.builder.now c.declare_value_needs_stack_map.new.builder c.args.answers.now c.declare_value_needs_stack_map.result) (sym c.in-DeclareValueNeedsStackMap.is) c.declare_value_needs_stack_map.ensures
+
 pub returns-in-DefVar : goal.returns-in-DefVar
 returns-in-DefVar c = subst (λ (x : Call). MakesScriptCall c.args.config x c.args.builder.now c.def_var.new.builder c.args.answers.now c.def_var.result) (sym c.in-DefVar.is) c.def_var.ensures
 

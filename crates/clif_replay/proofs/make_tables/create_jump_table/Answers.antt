@@ -9,6 +9,7 @@ use Rattle.clif_builder.specs.Entries.{CreatesJumpTable}
 use Rattle.clif_calls.specs.declared.call.Name.{Name}
 use Rattle.clif_resolution.specs.Answers.{edge_at}
 use Rattle.clif_resolution.specs.declared.answers.Answer.TheVariants as answer
+use Rattle.clif_resolution.specs.declared.answers.Entry.TheVariants as entry
 use Rattle.clif_replay.proofs.JumpTables.{all-there, edges-same, table-ready}
 use Rattle.clif_replay.proofs.Making.{answered-sound, made-answer, made-misused, made-missed, made-refused}
 use Rattle.clif_replay.proofs.make_tables.create_jump_table.Goals as goal
@@ -33,8 +34,8 @@ returns-in_err-entries c =
     ∙ and_right (is_some (edge_at c.args.answers.now c.args.default)) _ (done.misuse misuse))
     done.never_refused done.never_full
 
-pub returns-in_err-create_jump_table : goal.returns-in_err-create_jump_table
-returns-in_err-create_jump_table c =
+pub returns-in_err-made : goal.returns-in_err-made
+returns-in_err-made c =
     let b = c.args.builder.now in
     let answers = c.args.answers.now in
     let names : List Name = c.args.default ∷ c.args.entries.now in
@@ -43,9 +44,9 @@ returns-in_err-create_jump_table c =
     ap (λ (o : Option BlockCall). o ∷ map (edge_at answers) c.args.entries.now) c.in_ok-default.ensures.found
     ∙ ap (λ (rest : List (Option BlockCall)). Some c.in_ok-default.default ∷ rest) c.in_ok-entries.ensures.edges in
     let done = c.create_jump_table.ensures in
-    let p = err_from_is_err_and c.from_residual-in_err-create_jump_table.result c.from_residual-in_err-create_jump_table.ensures.1 in
-    made-refused b c.create_jump_table.new.self answers c.create_jump_table.result c.in_err-create_jump_table.field-0.0 p.0 c.from_residual-in_err-create_jump_table.result
-    c.in_err-create_jump_table.was p.1 p.2 done.sets.call.loans c.requires.sound done.sets.call.failed
+    let p = err_from_is_err_and c.from_residual-in_err-made.result c.from_residual-in_err-made.ensures.1 in
+    made-refused b c.create_jump_table.new.self answers c.create_jump_table.result c.in_err-made.field-0.0 p.0 c.from_residual-in_err-made.result
+    c.in_err-made.was p.1 p.2 done.sets.call.loans c.requires.sound done.sets.call.failed
     (λ naming declared calls ready. edges-same calls b answers ready names ∙ all-there answers names edges found) (λ full. (done.full.0 full).1)
 
 pub returns : goal.returns
@@ -59,8 +60,8 @@ returns c =
     ap (λ (o : Option BlockCall). o ∷ map (edge_at answers) c.args.entries.now) c.in_ok-default.ensures.found
     ∙ ap (λ (rest : List (Option BlockCall)). Some c.in_ok-default.default ∷ rest) c.in_ok-entries.ensures.edges in
     let done = c.create_jump_table.ensures in
-    let creates = subst (λ (table : List BlockCall). CreatesJumpTable table b new (Ok c.in_ok-create_jump_table.field-0)) c.in_ok-table.ensures.ok c.in_ok-create_jump_table.ensures in
-    made-answer b new answers answer.Table done.sets.call.loans creates.sets.grows.3 (answered-sound _ c.create_jump_table.result _ done.sets.call.fails c.in_ok-create_jump_table.was)
+    let creates = subst (λ (table : List BlockCall). CreatesJumpTable table b new (Ok c.in_ok-made.made)) c.in_ok-table.ensures.ok c.in_ok-made.ensures in
+    made-answer b new answers (answer.Entry (entry.JumpTable c.in_ok-made.made)) done.sets.call.loans creates.sets.grows.3 (answered-sound _ c.create_jump_table.result _ done.sets.call.fails c.in_ok-made.was)
     (ap (λ (x : ContextState). x.variables) done.sets.context)
     (λ naming declared calls ready. edges-same calls b answers ready names ∙ all-there answers names edges found)
-    (λ naming declared calls ready. table-ready c.table_calls_add_nothing.ensures calls b new answers c.args.default c.args.entries.now edges c.in_ok-create_jump_table.field-0 ready found creates)
+    (λ naming declared calls ready. table-ready c.table_calls_add_nothing.ensures calls b new answers c.args.default c.args.entries.now edges c.in_ok-made.made ready found creates)

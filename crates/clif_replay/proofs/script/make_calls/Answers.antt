@@ -23,7 +23,9 @@ use Rattle.clif_expansion.specs.JoinedCalls.{Starting}
 use Rattle.clif_expansion.specs.Reading.{NotMade}
 use Rattle.clif_replay.proofs.Replays.{last-place, loans-then, made-all, made-memory, misuse-place, refused-there}
 use Rattle.std.proofs.lemmas.Result.{err_from_is_err_and}
-use Rattle.clif_replay.proofs.Stepping.{IsInStep, step}
+use Rattle.clif_resolution.specs.Entries.{Numbers}
+use Rattle.clif_replay.specs.Limits.{MeetsFullTable}
+use Rattle.clif_replay.proofs.Stepping.{IsInStep, in-step-numbers, step}
 use Rattle.clif_replay.proofs.Verdicts.{HasRest, calls-more, calls_before, full-told, misuse-told, refusal-at, refusal-told, rest-more}
 use Rattle.clif_replay.proofs.script.make_calls.Goals as goal
 
@@ -164,7 +166,9 @@ returns-in-Err-clause-table_full c = λ told.
       stands = invariant.in_step.ready.stands;
       named = invariant.name;
       allowed = allowed-full c.in-Err.error is_full _ _ _ judged;
-      meets = made.full (ap Err is_full);
+      meets =
+          subst (λ (numbers : Numbers). MeetsFullTable numbers call builder.func.now builder.ctx.now)
+          (in-step-numbers c.args.config declared (calls_before c.args.config declared calls place) builder _ before) (made.full (ap Err is_full));
     }
 
 pub returns-in_err-push-in-Ok : goal.returns-in_err-push-in-Ok

@@ -12,5 +12,5 @@ pub returns : goal.returns
 returns c =
     let values = c.in_ok-args.args in
     let found = subst (λ (f : Body). map (value_of f c.args.answers.now) c.args.args.now ≡ map Some values) c.func.ensures c.in_ok-args.ensures.values in
-    planned-found c.args.builder.now c.args.answers.now (plan.MultiAry c.args.args) (plan.MultiAry c.args.args) c.untyped.result (shape.MultiAry values) Invalid refl c.untyped.ensures
+    planned-found c.args.builder.now c.args.answers.now (plan.MultiAry c.args.args) (plan.MultiAry c.args.args) c.untyped.result (shape.MultiAry values) Invalid refl c.untyped.ensures refl
     (planned-returns c.args.builder.now c.args.answers.now c.args.args values found)

@@ -2,7 +2,7 @@
 use Rattle.std.proofs.Common.{List, ℕ, ◌∷◌, ◌++◌, [], ap, sym, subst, ◌∙◌}
 use Rattle.std.proofs.lemmas.List.{append_assoc, append-nil}
 use Rattle.clif_words.specs.Cursor.{words_left}
-use Rattle.clif_arguments.specs.Arguments.{AreAnswers, IsAnswer, IsEdge, IsJumpTable, IsLastEdge}
+use Rattle.clif_arguments.specs.Arguments.{AreAnswers, IsAnswer, IsEdge, IsLastEdge}
 use Rattle.clif_arguments.specs.Scope.{names_of}
 use Rattle.clif_text.proofs.calls.read_call.Goals as goal
 
@@ -15,6 +15,16 @@ pub returns-in_ok-variable-in-use_var : goal.returns-in_ok-variable-in-use_var
 returns-in_ok-variable-in-use_var c =
     let one = c.in_ok-variable-in-use_var.ensures.ok in
     (one.0 ∷ [], one.1, (one.0, ap (λ (head : List ℕ). head ∷ one.0 ∷ []) c.in-use_var.is, one.2))
+
+pub returns-in_ok-variable-in-declare_var_needs_stack_map : goal.returns-in_ok-variable-in-declare_var_needs_stack_map
+returns-in_ok-variable-in-declare_var_needs_stack_map c =
+    let one = c.in_ok-variable-in-declare_var_needs_stack_map.ensures.ok in
+    (one.0 ∷ [], one.1, (one.0, ap (λ (head : List ℕ). head ∷ one.0 ∷ []) c.in-declare_var_needs_stack_map.is, one.2))
+
+pub returns-in_ok-value-in-declare_value_needs_stack_map : goal.returns-in_ok-value-in-declare_value_needs_stack_map
+returns-in_ok-value-in-declare_value_needs_stack_map c =
+    let one = c.in_ok-value-in-declare_value_needs_stack_map.ensures.ok in
+    (one.0 ∷ [], one.1, (one.0, ap (λ (head : List ℕ). head ∷ one.0 ∷ []) c.in-declare_value_needs_stack_map.is, one.2))
 
 pub returns-in_ok-value-in-def_var : goal.returns-in_ok-value-in-def_var
 returns-in_ok-value-in-def_var c =
@@ -70,5 +80,5 @@ pub returns-in_ok-jump_table-in-br_table : goal.returns-in_ok-jump_table-in-br_t
 returns-in_ok-jump_table-in-br_table c =
     let index = c.in_ok-value-in-br_table.ensures.ok in
     let table = c.in_ok-jump_table-in-br_table.ensures.ok in
-    let stands = subst (λ scope. IsJumpTable (names_of scope.now) table.0 c.in_ok-jump_table-in-br_table.field-0) c.in_ok-value-in-br_table.ensures.scope table.2 in
+    let stands = subst (λ scope. IsAnswer (names_of scope.now) table.0 c.in_ok-jump_table-in-br_table.field-0) c.in_ok-value-in-br_table.ensures.scope table.2 in
     (index.0 ∷ table.0 ∷ [], index.1 ∙ ap (λ rest. index.0 ∷ rest) table.1, (index.0, table.0, ap (λ (head : List ℕ). head ∷ index.0 ∷ table.0 ∷ []) c.in-br_table.is, index.2, stands))

@@ -2,7 +2,7 @@
 use Rattle.std.proofs.Common.{List, ℕ, ◌∷◌, ◌++◌, [], ap, sym, subst, ◌∙◌}
 use Rattle.std.proofs.lemmas.List.{append_assoc, append-nil}
 use Rattle.clif_words.specs.Cursor.{words_left}
-use Rattle.clif_arguments.specs.Arguments.{AreClosed, AreItems, IsAnswer, IsExceptionTable}
+use Rattle.clif_arguments.specs.Arguments.{AreClosed, AreItems, IsAnswer}
 use Rattle.clif_arguments.specs.Scope.{names_of}
 use Rattle.clif_text.proofs.throwing.read_throwing_call.Goals as goal
 
@@ -38,7 +38,7 @@ returns-in_ok-exception_table-in-try_call c =
     let first = c.in_ok-function-in-try_call.ensures.scope in
     let second = c.in_ok-closed_values-in-try_call.ensures.scope ∙ first in
     let values = subst (λ at. AreClosed (names_of at.now) passed.0 c.in_ok-closed_values-in-try_call.field-0.items) first passed.2 in
-    let served = subst (λ at. IsExceptionTable (names_of at.now) table.0 c.in_ok-exception_table-in-try_call.field-0) second table.2 in (
+    let served = subst (λ at. IsAnswer (names_of at.now) table.0 c.in_ok-exception_table-in-try_call.field-0) second table.2 in (
       function.0 ∷ (passed.0 ++ table.0 ∷ []),
       function.1 ∙ ap (λ rest. function.0 ∷ rest) (passed.1 ∙ (ap (λ rest. passed.0 ++ rest) table.1 ∙ sym (append_assoc passed.0 (table.0 ∷ []) _))),
       (
@@ -60,7 +60,7 @@ returns-in_ok-exception_table-in-try_call_indirect c =
     let first = c.in_ok-value-in-try_call_indirect.ensures.scope in
     let second = c.in_ok-closed_values-in-try_call_indirect.ensures.scope ∙ first in
     let values = subst (λ at. AreClosed (names_of at.now) passed.0 c.in_ok-closed_values-in-try_call_indirect.field-0.items) first passed.2 in
-    let served = subst (λ at. IsExceptionTable (names_of at.now) table.0 c.in_ok-exception_table-in-try_call_indirect.field-0) second table.2 in (
+    let served = subst (λ at. IsAnswer (names_of at.now) table.0 c.in_ok-exception_table-in-try_call_indirect.field-0) second table.2 in (
       callee.0 ∷ (passed.0 ++ table.0 ∷ []),
       callee.1 ∙ ap (λ rest. callee.0 ∷ rest) (passed.1 ∙ (ap (λ rest. passed.0 ++ rest) table.1 ∙ sym (append_assoc passed.0 (table.0 ∷ []) _))),
       (

@@ -19,7 +19,7 @@ returns-clause-told c = λ name.
     told c.args.self.now _ c.def_var-recorded.result _ _
     (λ calls agrees names.
     let done = c.def_var-recorded.ensures in
-    assigned calls _ _ _ _ c.args.variable name c.in-Some.block c.args.value _ agrees c.requires.value_exists c.requires.same_type done.ok done.tracking done.blocks done.status done.touches)
+    assigned calls _ _ _ _ c.args.variable name c.in-Some.block c.args.value _ agrees names c.requires.value_exists c.requires.same_type done.ok done.tracking done.blocks done.status done.touches)
     (λ signature calls stands names ledger.
     let done = c.def_var-recorded.ensures in
     assigned_stands signature calls _ _ _ _ c.args.variable c.args.value c.in-Some.block name _ stands c.in-Some.is c.law_consistent.ensures

@@ -1,13 +1,11 @@
-use Rattle.std.proofs.Common.{refl, sym, subst}
-use Rattle.std.specs.Prelude.{Result, Option, OnOk, length}
+use Rattle.std.proofs.Common.{refl, subst}
+use Rattle.std.specs.Prelude.{OnOk}
 use Rattle.clif_meaning.specs.Request.{Finalize}
-use Rattle.clif_meaning.specs.Acceptance.{Refusal, refusal_of}
-use Rattle.clif_builder.specs.declared.error.FinalizeError.{FinalizeError}
-use Rattle.clif_builder.specs.Builder.{verdict_of}
+use Rattle.clif_meaning.specs.Acceptance.{refusal_of}
 use Rattle.clif_types.specs.declared.types.«Type».{«Type»}
 use Rattle.clif_builder.specs.Ending.{BecomesSpilled, recorded_in}
-use Rattle.clif_builder.specs.Ledger.{RefusalAgrees, ledger_of}
-use Rattle.clif_builder.proofs.Ending.{ends_after, ends_untracked, on_ok_both, on_ok_map, refusal_is_told, sound_where_ok}
+use Rattle.clif_builder.specs.Ledger.{ledger_of}
+use Rattle.clif_builder.proofs.Ending.{ends_after, ends_by_ledger, on_ok_both, on_ok_map, sound_where_ok}
 use Rattle.clif_builder.proofs.Finishing.{as_found, finished_where_ok}
 use Rattle.clif_builder.proofs.LedgerEnds.{finished}
 use Rattle.clif_builder.proofs.Named.{kept_recorded}
@@ -23,14 +21,8 @@ pub returns-clause-answer : goal.returns-clause-answer
 returns-clause-answer c = ends_after c.args.self c.verdict-verdict.result c.finish-answer.result c.verdict-verdict.ensures c.finish-answer.ensures.answer
 
 pub returns-clause-ledger : goal.returns-clause-ledger
-returns-clause-ledger c = λ calls agrees sound asks.
-    subst (λ (r : Result (Unit {0}) FinalizeError). RefusalAgrees calls (refusal_of (ledger_of calls) Finalize) r)
-    (sym (ends_untracked c.args.self c.finish-answer.result (agrees.tracks.untracked asks) (returns-clause-answer c))) (finished calls c.args.self agrees sound)
-
-pub returns-clause-refused : goal.returns-clause-refused
-returns-clause-refused c = λ calls refusal agrees sound is.
-    refusal_is_told c.args.self calls c.finish-answer.result refusal (returns-clause-answer c)
-    (subst (λ (told : Option Refusal). RefusalAgrees calls told (verdict_of c.args.self.failed c.args.self.ctx.now (length c.args.self.func.now.blocks))) is (finished calls c.args.self agrees sound))
+returns-clause-ledger c = λ calls agrees sound.
+    ends_by_ledger c.args.self calls (refusal_of (ledger_of calls) Finalize) c.finish-answer.result (returns-clause-answer c) (finished calls c.args.self agrees sound)
 
 pub returns-clause-same_meaning : goal.returns-clause-same_meaning
 returns-clause-same_meaning c = λ signature calls stands.

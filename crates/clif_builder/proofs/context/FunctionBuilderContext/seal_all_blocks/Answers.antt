@@ -9,6 +9,7 @@ use Rattle.clif_ssa.proofs.PuttingSteps.{full_before}
 use Rattle.clif_builder.specs.Context.{ContextState}
 use Rattle.clif_builder.specs.Construction.{IsSealingAll}
 use Rattle.clif_builder.proofs.Growing.{on_ok_step}
+use Rattle.clif_builder.proofs.Made.{seal_all_makes}
 use Rattle.clif_builder.proofs.Statuses.{begins_from}
 use Rattle.clif_builder.proofs.LedgerLists.{if-no, if-yes}
 use Rattle.clif_builder.proofs.Tracks.{tracks}
@@ -34,6 +35,7 @@ returns-clause-is_sealing c =
           ];
       stay = done.stay;
       tracks = tracks (done.tracks named);
+      makes = seal_all_makes c.args.func.now c.seal_all_blocks.new.func c.self.inside.ssa c.seal_all_blocks.new.self (length c.args.func.now.blocks) told done.in_turn;
       remembers = done.remembers;
       structured = done.structured;
       keeps = λ own tables spares. done.keeps own tables (λ b below. spares b (lt-ltb b (length c.args.func.now.blocks) below));

@@ -9,6 +9,7 @@ use Rattle.clif_ssa.proofs.PuttingSteps.{full_before}
 use Rattle.clif_builder.specs.Context.{ContextState}
 use Rattle.clif_builder.specs.Construction.{IsSealing}
 use Rattle.clif_builder.proofs.Growing.{on_ok_step}
+use Rattle.clif_builder.proofs.Made.{seal_makes}
 use Rattle.clif_builder.proofs.Statuses.{begins_from}
 use Rattle.clif_builder.proofs.Tracks.{tracks}
 use Rattle.clif_builder.proofs.context.FunctionBuilderContext.seal_block.Goals as goal
@@ -26,6 +27,7 @@ returns-clause-is_sealing c =
       sealed = done.sealed;
       stay = done.stay;
       tracks = tracks (done.tracks named);
+      makes = seal_makes c.args.func.now c.seal_block.new.func c.self.inside.ssa c.seal_block.new.self c.args.block c.in_ok-side_effects.side_effects done.local done.completes;
       remembers = done.remembers;
       structured = done.structured;
       keeps = λ own tables spares. done.keeps own tables (spares c.args.block (eq-eqb c.args.block c.args.block refl));

@@ -1,8 +1,10 @@
 use Rattle.std.proofs.Common.{List, ℕ, sym, ap, subst}
+use Rattle.std.specs.Prelude.{Ok}
 use Rattle.clif_ssa.specs.Ssa.{SsaState, NamesExist}
 use Rattle.clif_ssa.proofs.Constructing.{constructs_none}
 use Rattle.clif_builder.specs.Context.{ContextState}
 use Rattle.clif_builder.specs.Construction.{IsUse}
+use Rattle.clif_builder.proofs.Made.{use_makes}
 use Rattle.clif_builder.proofs.Statuses.{begins_from}
 use Rattle.clif_builder.proofs.Tracks.{tracks}
 use Rattle.clif_builder.proofs.context.FunctionBuilderContext.use_var.Goals as goal
@@ -25,6 +27,9 @@ returns-clause-is_use c =
       remembers = done.remembers;
       recorded = done.recorded;
       tracks = tracks (done.tracks named);
+      makes =
+          use_makes c.args.func.now c.use_var.new.func c.self.inside.ssa c.use_var.new.self c.args.variable c.args.ty c.args.block
+          (Ok (c.in_ok-value.value, c.in_ok-value.side_effects)) done.known done.waits done.zero done.looks;
       structured = done.structured;
       keeps = done.keeps;
     } in (

@@ -1,6 +1,5 @@
 use Rattle.std.proofs.Common.{[], ap, ◌∙◌}
-use Rattle.clif_records.specs.declared.tables.SsaBlock.{SsaBlock}
-use Rattle.clif_records.specs.Tables.{record_at}
+use Rattle.clif_records.specs.Tables.{SsaBlock, record_at}
 use Rattle.clif_ssa.proofs.Opened.{predecessors_same, records_are, sealed_same, state_of, tables_are}
 use Rattle.clif_ssa.proofs.Writing.{same_state}
 use Rattle.clif_ssa.proofs.Structuring.{same_structured}

@@ -2,11 +2,10 @@
 use Rattle.std.proofs.Common.{◌≡◌, ◌<◌, ◌==◌, ℕ, Bool, true, false, List, length, arith, subst, sym, ◌∙◌}
 use Rattle.std.specs.Prelude.{Some, Contains}
 use Rattle.clif_ir.specs.Body.{Body}
-use Rattle.clif_records.specs.Tables.{pending_of, predecessors_at, sealed_at}
+use Rattle.clif_records.specs.Tables.{SsaBlock, pending_of, predecessors_at, sealed_at}
 use Rattle.clif_ssa.specs.Ssa.{SsaState, NamesExist, record_of, Records, SameRecords}
 use Rattle.std.specs.Prelude.{Option, Result, Ok, Err, OnOk, OnErr, ◌&&◌, if◌then◌else◌}
 use Rattle.clif_types.specs.declared.error.BuildError.{BuildError}
-use Rattle.clif_records.specs.declared.tables.SsaBlock.{SsaBlock}
 use Rattle.clif_ssa_tests.proofs.support.Fixture.define.Goals as goal
 
 same_some : {x y : ℕ} → ◌≡◌ {A = Option ℕ} (Some x) (Some y) → x ≡ y

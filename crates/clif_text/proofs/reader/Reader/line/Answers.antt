@@ -30,7 +30,7 @@ returns-in-Some-split_first-clause-ok c =
     let head = c.in-Some-split_first.head.now.now in
     let left = parts ∙ ap (λ rest. head ∷ rest) (sym c.new.ensures) in
     let others = subst (λ ws. All (λ word. word ≢ codes "=") (texts ws)) c.as_slice-words.ensures.value c.in_default.ensures.none in
-    on_ok_weaker c.read.result (λ says counted. (record { numbered = counted.numbered; totals = counted.totals }, says_header c.args.line.now (texts c.in_ok-words.words.items) head (words_left c.new.result) c.args.number (said_to c.args.self.now) (header_said c.read.new.self) c.in_ok-words.ensures left says others)) c.read.ensures
+    on_ok_weaker c.read.result (λ says counted. (record { declared = counted.declared; variables = counted.variables }, says_header c.args.line.now (texts c.in_ok-words.words.items) head (words_left c.new.result) c.args.number (said_to c.args.self.now) (header_said c.read.new.self) c.in_ok-words.ensures left says others)) c.read.ensures
 
 pub returns-in-Some-split_first-clause-err : goal.returns-in-Some-split_first-clause-err
 returns-in-Some-split_first-clause-err c =
