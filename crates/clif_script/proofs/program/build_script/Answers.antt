@@ -3,7 +3,7 @@ use Rattle.std.proofs.Common.{List, sym, subst}
 use Rattle.std.proofs.lemmas.Option.{same_Some}
 use Rattle.clif_calls.specs.declared.call.Call.{Call}
 use Rattle.clif_replay.specs.Replay.{ReplayMakes}
-use Rattle.clif_script.proofs.Answering.{answer_no_error, if_ok_then}
+use Rattle.clif_script.proofs.Answering.{answer_no_error, if_ok_then, of_value}
 use Rattle.clif_script.proofs.program.build_script.Goals as goal
 
 pub returns-clause-makes : goal.returns-clause-makes
@@ -18,9 +18,8 @@ returns-clause-makes g c =
             same_meaning = c.in-Ok.ensures.same_meaning;
             built = c.in-Ok.ensures.built;
             edges_match = c.in-Ok.ensures.edges_match;
-            well_placed = c.in-Ok.ensures.well_placed;
             named = c.in-Ok.ensures.name;
-            accepted = sym (same_Some _ _ (c.in-Ok.ensures.verdict (answer_no_error c.in-Ok.func _) (answer_no_error c.in-Ok.func _)));
+            accepted = sym (same_Some _ _ (of_value c.in-Ok.func _ (c.in-Ok.ensures.verdict (answer_no_error c.in-Ok.func _) (answer_no_error c.in-Ok.func _))));
           });
     })
     c.show.ensures.typed
