@@ -11,6 +11,7 @@ pub mod Marks
 pub mod Placements
 pub mod Constants
 pub mod Making
+pub mod Asking
 pub mod JumpTables
 pub mod Throwing
 pub mod Replays

@@ -35,6 +35,7 @@ use Rattle.clif_replay.specs.Requests.{attempts_of, calls_of, is_refusable}
 use Rattle.clif_replay.specs.Replayed.{Found, IsReplayed, IsStoppedByTable, IsStoppedInSpilling, MayBeRefused, TellsVerdict, recorded_in}
 use Rattle.clif_expansion.specs.CallsVerdict.{verdict_on_call_attempts}
 use Rattle.clif_expansion.proofs.calls.Headline.{keep_premises}
+use Rattle.clif_replay.proofs.Asking.{recorded_as_asked}
 use Rattle.clif_replay.proofs.Verdicts.{all-of-width, all-replayed, full-spilling, means-replayed, verdict-accepted, verdict-refused}
 
 -- it keeps its name
@@ -52,6 +53,9 @@ found-by calls declared config made b stands replayed = record {
   context = b.ctx.now;
   position = b.position;
   stands = stands;
+  recorded =
+      let plain = all-replayed config declared calls made replayed in
+      recorded_as_asked (calls_of config declared calls) plain.reading made b.func.now.values b.ctx.now plain.joined stands.ledger.tracks;
 }
 
 -- all calls were made, and `finalize` succeeded: `f` is the function that it left

@@ -3,8 +3,9 @@ use Rattle.std.specs.Prelude.{◌≡◌, ◌≢◌, ◌⊎◌, ℕ, List, [], �
 use Rattle.std.specs.List.{AllByRecursion}
 use Rattle.clif_ir.specs.Body.{Body}
 use Rattle.clif_meaning.specs.Instruction.{Bytes, Operation}
-use Rattle.clif_meaning.specs.Request.{Finalize, Script, AnsweredCall, script_of}
-use Rattle.clif_meaning.specs.Ledger.{empty_ledger}
+use Rattle.clif_meaning.specs.Name.{Name}
+use Rattle.clif_meaning.specs.Request.{DefVar, Finalize, NeedStackMap, OfValue, Request, Script, AnsweredCall, script_of}
+use Rattle.clif_meaning.specs.Ledger.{empty_ledger, is_marked}
 use Rattle.clif_meaning.specs.View.{view_of}
 use Rattle.clif_meaning.specs.WellPlaced.{WellPlaced}
 use Rattle.clif_meaning.specs.Acceptance.{Verdict, Accepted, Misuse, Refused}
@@ -14,10 +15,15 @@ use Rattle.clif_types.specs.Types.{bits_of}
 use Rattle.clif_types.specs.Target.{pointer_type_of}
 use Rattle.clif_types.specs.declared.extname.UserFuncName.{UserFuncName}
 use Rattle.clif_types.specs.declared.target.TargetFrontendConfig.{TargetFrontendConfig}
-use Rattle.clif_records.specs.Tracking.{recorded_of}
+use Rattle.clif_types.specs.EntitySet.{has}
+use Rattle.clif_nodes.specs.declared.nodes.ValueNode.{ValueNode}
+use Rattle.clif_records.specs.Tracking.{marked_of, recorded_of}
+use Rattle.clif_ssa.specs.Ssa.{SsaState}
+use Rattle.clif_simulation.specs.Tracks.{HasRequest}
 use Rattle.clif_safepoints.specs.Contexts.{IsFirstTracked}
 use Rattle.clif_builder.specs.Context.{ContextState}
 use Rattle.clif_builder.specs.Ending.{BecomesSpilled}
+use Rattle.clif_builder.specs.Recorded.{RecordsExactly}
 use Rattle.clif_builder.specs.StandsFor.{LeavesNoParameter, StandsIn}
 use Rattle.clif_calls.specs.declared.call.Call.{Call}
 use Rattle.clif_expansion.specs.CallsHeadline.{CallsPlacementPremises}
@@ -25,7 +31,7 @@ use Rattle.clif_expansion.specs.CallsVerdict.{AreCallsTaken, verdict_on_call_att
 use Rattle.clif_expansion.specs.CallsVerdict as verdict
 use Rattle.clif_expansion.specs.JoinedCalls.{AreJoinedCalls}
 use Rattle.clif_expansion.specs.PerformedCalls.{ArePerformed}
-use Rattle.clif_expansion.specs.Reading.{Reading}
+use Rattle.clif_expansion.specs.Reading.{IsReadAs, Reading}
 use Rattle.clif_expansion.specs.ScriptCall.{Ask, Emit, ScriptCall, call_allowed, ledger_of}
 use Rattle.clif_replay.specs.declared.script.ReplayError.{ReplayError}
 use Rattle.clif_replay.specs.declared.script.ReplayError.TheVariants as replay
@@ -69,6 +75,25 @@ verdict_of (Err (replay.Refused place)) = Some (Refused place)
 verdict_of (Err replay.Memory) = None
 verdict_of (Err replay.Full) = None
 
+-- the script's calls ask for this
+abbrev pub HasCall : List ScriptCall → Request → Type 0
+HasCall calls request = (place : ℕ) × (slice_get calls place ≡ Some (Ask request))
+
+-- The plain calls ask for this of a name exactly where the script's calls ask for it of a name that it is read as.
+pub record AskAlike (reading : Reading) (plain : Script) (calls : List ScriptCall) (asking : Name → Request) : Type 0 where
+  pub plain_asks : (x : Name) → HasRequest plain (asking x)
+      → (name : Name) × IsReadAs reading x name × HasCall calls (asking name)
+  pub script_asks : (name : Name) → HasCall calls (asking name)
+      → (x : Name) × IsReadAs reading x name × HasRequest plain (asking x)
+
+-- What is recorded is exactly what a script's calls ask for: what answers the names that they declare, what they assign to marked
+-- variables, and the parameters that were made for marked variables.
+pub record RecordsAsAsked (calls : List ScriptCall) (reading : Reading) (made : List AnsweredCall) (values : List ValueNode) (s : SsaState) : Type 0 where
+  pub exactly : RecordsExactly made values s
+  pub declared : AskAlike reading (script_of made) calls (λ name. NeedStackMap (OfValue name))
+  pub assigned : (variable : ℕ) → AskAlike reading (script_of made) calls (DefVar variable)
+  pub marked : (variable : ℕ) → is_marked (ledger_of calls) variable ≡ has (marked_of s.tracking) variable
+
 -- What the calls build, as `finalize` finds it: a function, and with the context the values that its stack maps need. A builder of it,
 -- with this context and current block, stands for plain calls of these calls, and for no others, on a function of the caller's
 -- signature.
@@ -79,6 +104,7 @@ pub record Found (config : TargetFrontendConfig) (calls : List Call) (declared :
   pub context : ContextState
   pub position : Option ℕ
   pub stands : StandsIn declared made function context position
+  pub recorded : RecordsAsAsked (calls_of config declared calls) plain.reading made function.values context.ssa
 
 -- the values that its stack maps need
 abbrev pub recorded_in : {config : TargetFrontendConfig} {calls : List Call} {declared : SignatureShape} → Found config calls declared → List ℕ
