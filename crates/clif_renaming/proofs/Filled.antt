@@ -141,9 +141,9 @@ filled_by_marks (state ∷ states) block = by (same_name state.block block) (fil
 -- TWO LEDGERS -----------------------------------------------------------------------------------------------------------
 
 -- the renamed blocks are filled alike, and the current block is renamed
-record SameFilled (rename : Name → Name) (l l' : Ledger) : Type 0 where
-  marks : marks_of l'.blocks ≡ map (renamed_mark rename) (marks_of l.blocks)
-  current : l'.current ≡ option_map rename l.current
+pub record SameFilled (rename : Name → Name) (l l' : Ledger) : Type 0 where
+  pub marks : marks_of l'.blocks ≡ map (renamed_mark rename) (marks_of l.blocks)
+  pub current : l'.current ≡ option_map rename l.current
 
 module _ (rename : Name → Name) (apart : KeepsApart rename) where
   both_keep : (l l' m m' : Ledger) → SameFilled rename l l' → Keeps l m → Keeps l' m' → SameFilled rename m m'
@@ -183,7 +183,7 @@ module _ (rename : Name → Name) (apart : KeepsApart rename) where
   begun_both : (l l' : Ledger) → SameFilled rename l l' → SameFilled rename (with_begun l) (with_begun l')
   begun_both l l' same = both_keep l l' (with_begun l) (with_begun l') same (begun_kept l l.current) (begun_kept l' l'.current)
 
-  built_both : (l l' : Ledger) (branch branch' : Name) (operation : Operation) (edges edges' : List (Edge Name Name)) → SameFilled rename l l'
+  pub built_both : (l l' : Ledger) (branch branch' : Name) (operation : Operation) (edges edges' : List (Edge Name Name)) → SameFilled rename l l'
       → SameFilled rename (fold (with_predecessor branch) (with_terminator (with_begun l) operation) edges) (fold (with_predecessor branch') (with_terminator (with_begun l') operation) edges')
   built_both l l' branch branch' operation edges edges' same =
       both_keep (with_terminator (with_begun l) operation) (with_terminator (with_begun l') operation) _ _
@@ -224,6 +224,15 @@ module _ (rename : Name → Name) (apart : KeepsApart rename) where
       both_keep l l' _ _ same (redirected_kept l branch from to) (redirected_kept l' (rename branch) (rename from) (rename to))
   both_changed l l' Finalize same at = same
 
+  -- after a call that seals, and after another one on both sides
+  pub behind_seal : (l l' : Ledger) (request : Request) → is_sealing request ≡ true → SameFilled rename l l' → SameFilled rename (ledger_with l request) l'
+  behind_seal l l' request seals same =
+      let kept = sealing_kept l request seals in
+      record { marks = same.marks ∙ ap (map (renamed_mark rename)) (sym kept.marks); current = same.current ∙ ap (λ (o : Option Name). option_map rename o) (sym kept.current) }
+
+  pub both_after : (l l' : Ledger) (request : Request) → SameFilled rename l l' → rename (next_answer l) ≡ next_answer l' → SameFilled rename (ledger_with l request) (ledger_with l' (renamed_request rename request))
+  both_after l l' request same at = let both = both_changed l l' request same at in record { marks = both.marks; current = both.current }
+
   -- a ledger with so many answers
   abbrev HasAnswers : Ledger → ℕ → Type 0
   HasAnswers ledger place = length ledger.answers ≡ place
@@ -246,19 +255,15 @@ module _ (rename : Name → Name) (apart : KeepsApart rename) where
     where
       by : KeepsFilled script → (c : Bool) → is_sealing request ≡ c → BothAfter request script l l' (is_sealing request)
       by later true seals =
-          let kept = sealing_kept l request seals in
           subst (BothAfter request script l l') (sym seals)
-          (later (ledger_with l request) l' (suc place) place' (one_answer_more l request place has) has'
-          (record { marks = same.marks ∙ ap (map (renamed_mark rename)) (sym kept.marks); current = same.current ∙ ap (λ (o : Option Name). option_map rename o) (sym kept.current) })
+          (later (ledger_with l request) l' (suc place) place' (one_answer_more l request place has) has' (behind_seal l l' request seals same)
           (follows_seal rename request script place place' follows seals))
       by later false stays =
           let at : rename (next_answer l) ≡ next_answer l' =
           ap (λ (n : ℕ). rename (answer_of n 0)) has ∙ follows_here rename request script place place' follows stays 0 ∙ ap (λ (n : ℕ). answer_of n 0) (sym has') in
-          let both = both_changed l l' request same at in
           subst (BothAfter request script l l') (sym stays)
           (later (ledger_with l request) (ledger_with l' (renamed_request rename request)) (suc place) (suc place')
-          (one_answer_more l request place has) (one_answer_more l' (renamed_request rename request) place' has')
-          (record { marks = both.marks; current = both.current })
+          (one_answer_more l request place has) (one_answer_more l' (renamed_request rename request) place' has') (both_after l l' request same at)
           (follows_call rename request script place place' follows stays))
 
   filled_renamed : (marks : List Mark) (block : Name) → filled_in (map (renamed_mark rename) marks) (rename block) ≡ filled_in marks block
@@ -266,12 +271,13 @@ module _ (rename : Name → Name) (apart : KeepsApart rename) where
   filled_renamed (mark ∷ marks) block =
       ap₂ (λ (test : Bool) (rest : Bool). cond test mark.filled rest) (same_renamed rename apart mark.block block) (filled_renamed marks block)
 
+  -- so the renamed blocks are filled where the blocks are
+  pub filled_alike : (l l' : Ledger) → SameFilled rename l l' → (block : Name) → is_filled l' (rename block) ≡ is_filled l block
+  filled_alike l l' same block =
+      filled_by_marks l'.blocks (rename block) ∙ ap (λ (marks : List Mark). filled_in marks (rename block)) same.marks
+      ∙ filled_renamed (marks_of l.blocks) block ∙ sym (filled_by_marks l.blocks block)
+
 pub unsealed_filled : (script : Script) (block : Name) → is_filled (ledger_after (unsealed script)) (name_left script block) ≡ is_filled (ledger_after script) block
 unsealed_filled script block =
-    filled_by_marks (ledger_after (unsealed script)).blocks (name_left script block)
-    ∙ ap (λ (marks : List Mark). filled_in marks (name_left script block)) same.marks
-    ∙ filled_renamed (name_left script) (names_apart script) (marks_of (ledger_after script).blocks) block
-    ∙ sym (filled_by_marks (ledger_after script).blocks block)
-  where
-    same : SameFilled (name_left script) (ledger_after script) (ledger_after (unsealed script))
-    same = filled_along (name_left script) (names_apart script) script empty_ledger empty_ledger 0 0 refl refl (record { marks = refl; current = refl }) (follows_at_first script)
+    filled_alike (name_left script) (names_apart script) (ledger_after script) (ledger_after (unsealed script))
+    (filled_along (name_left script) (names_apart script) script empty_ledger empty_ledger 0 0 refl refl (record { marks = refl; current = refl }) (follows_at_first script)) block

@@ -60,9 +60,9 @@ abbrev pub IsBareElsewhere : (Name → Name) → Program → Type 0
 IsBareElsewhere rename program = (block : Name) → IsBare program block ⊎ IsImage rename block
 
 -- so it is so far, and the current block, if there is one, has a renamed name
-record HasImages (rename : Name → Name) (program : Program) : Type 0 where
-  current : (block : Option Name) × (option_map rename block ≡ program.current)
-  blocks : IsBareElsewhere rename program
+pub record HasImages (rename : Name → Name) (program : Program) : Type 0 where
+  pub current : (block : Option Name) × (option_map rename block ≡ program.current)
+  pub blocks : IsBareElsewhere rename program
 
 module _ (rename : Name → Name) where
   item_image : (p : Program) (current : Option Name) (item : Item) → HasImages rename p → HasImages rename (with_item_at p (option_map rename current) item)
@@ -75,7 +75,7 @@ module _ (rename : Name → Name) where
       by other false is (inl bare) = inl (ap (λ (test : Bool). if test then p.items other ++ item ∷ [] else p.items other) is ∙ bare.0, bare.1)
       by other false is (inr image) = inr image
 
-  item_images : (p : Program) (item : Item) → HasImages rename p → HasImages rename (with_item p item)
+  pub item_images : (p : Program) (item : Item) → HasImages rename p → HasImages rename (with_item p item)
   item_images p item has =
       subst (λ (current : Option Name). HasImages rename (with_item_at p current item)) has.current.1 (item_image p has.current.0 item has)
 
@@ -95,7 +95,7 @@ module _ (rename : Name → Name) where
       by other (inl bare) = inl (ap (map (redirected_item branch from to)) bare.0, bare.1)
       by other (inr image) = inr image
 
-  inserted_images : (p : Program) → HasImages rename p → HasImages rename (with_inserted p)
+  pub inserted_images : (p : Program) → HasImages rename p → HasImages rename (with_inserted p)
   inserted_images p has = record { current = has.current; blocks = has.blocks }
 
   extended_images : (p : Program) (request : Request) → HasImages rename p → HasImages rename (extended p (renamed_request rename request))
@@ -121,11 +121,15 @@ module _ (rename : Name → Name) where
   extended_images p (ChangeJumpDestination branch from to) has = redirected_images p (rename branch) (rename from) (rename to) has
   extended_images p Finalize has = has
 
+  -- one more call
+  pub images_after : (p : Program) (request : Request) → HasImages rename p → HasImages rename (with_call p (renamed_request rename request))
+  images_after p request has =
+      let one : HasImages rename (extended p (renamed_request rename request)) = extended_images p request has in record { current = one.current; blocks = one.blocks }
+
   images_along : (script : Script) (p : Program) → HasImages rename p → HasImages rename (fold with_call p (map (renamed_request rename) script))
   images_along [] p has = has
   images_along (request ∷ script) p has =
-      let one : HasImages rename (extended p (renamed_request rename request)) = extended_images p request has in
-      images_along script (with_call p (renamed_request rename request)) (record { current = one.current; blocks = one.blocks })
+      images_along script (with_call p (renamed_request rename request)) (images_after p request has)
 
   pub bare_elsewhere : (script : Script) → IsBareElsewhere rename (program_of (map (renamed_request rename) script))
   bare_elsewhere script =

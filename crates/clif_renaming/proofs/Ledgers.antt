@@ -42,7 +42,7 @@ led branch ledger (edge ∷ edges) =
     let more = led branch (with_predecessor branch ledger edge) edges in
     record { variables = more.variables; tables = more.tables }
 
-built : (branch : Name) (ledger : Ledger) (operation : Operation) (edges : List (Edge Name Name))
+pub built : (branch : Name) (ledger : Ledger) (operation : Operation) (edges : List (Edge Name Name))
     → SameTables ledger (fold (with_predecessor branch) (with_terminator (with_begun ledger) operation) edges)
 built branch ledger operation edges =
     let first = begun ledger ledger.current in
@@ -51,7 +51,7 @@ built branch ledger operation edges =
     record { variables = third.variables ∙ second.variables ∙ first.variables; tables = third.tables ∙ second.tables ∙ first.tables }
 
 -- two ledgers that change neither
-both_kept : (l l' m m' : Ledger) → SameTables l l' → SameTables l m → SameTables l' m' → SameTables m m'
+pub both_kept : (l l' m m' : Ledger) → SameTables l l' → SameTables l m → SameTables l' m' → SameTables m m'
 both_kept l l' m m' same kept kept' = record {
   variables = kept'.variables ∙ same.variables ∙ sym kept.variables;
   tables = kept'.tables ∙ same.tables ∙ sym kept.tables;
@@ -82,7 +82,7 @@ sealing_keeps ledger (ChangeJumpDestination branch from to) is = let none : ⊥ 
 sealing_keeps ledger Finalize is = let none : ⊥ = cc in absurd none
 
 -- the types of answers: an answer that is no value has none
-abbrev types_of : List Answered → List (Option «Type»)
+abbrev pub types_of : List Answered → List (Option «Type»)
 types_of answers = map (λ answer. value_answer_type (Some answer)) answers
 
 module _ (rename : Name → Name) (l l' : Ledger) (same : SameTables l l') where
@@ -119,11 +119,11 @@ module _ (rename : Name → Name) (l l' : Ledger) (same : SameTables l l') where
   both_changed (ChangeJumpDestination branch from to) = record { variables = same.variables; tables = same.tables }
   both_changed Finalize = record { variables = same.variables; tables = same.tables }
 
-  both_after : (request : Request) → SameTables (ledger_with l request) (ledger_with l' (renamed_request rename request))
+  pub both_after : (request : Request) → SameTables (ledger_with l request) (ledger_with l' (renamed_request rename request))
   both_after request = let both = both_changed request in record { variables = both.variables; tables = both.tables }
 
   -- and have answers of the same types
-  answered_alike : (request : Request) → types_of (answers_to l' (renamed_request rename request)) ≡ types_of (answers_to l request)
+  pub answered_alike : (request : Request) → types_of (answers_to l' (renamed_request rename request)) ≡ types_of (answers_to l request)
   answered_alike CreateBlock = refl
   answered_alike (SwitchToBlock block) = refl
   answered_alike (SealBlock block) = refl
@@ -161,19 +161,17 @@ answers_after ledger (request ∷ script) =
     ∙ append_assoc (map types_of ledger.answers) (types_of (answers_to ledger request) ∷ []) (answers_along (ledger_with ledger request) script)
 
 -- the type of an answer is that which is told of it
-flat : Option (Option «Type») → Option «Type»
+abbrev pub flat : Option (Option «Type») → Option «Type»
 flat None = None
 flat (Some ty) = ty
 
-typed_in : (answers : List Answered) (index : ℕ) → value_answer_type (slice_get answers index) ≡ flat (slice_get (types_of answers) index)
-unfolding flat
+pub typed_in : (answers : List Answered) (index : ℕ) → value_answer_type (slice_get answers index) ≡ flat (slice_get (types_of answers) index)
 typed_in [] index = refl
 typed_in (answer ∷ answers) zero = refl
 typed_in (answer ∷ answers) (suc index) = typed_in answers index
 
 typed_at : (answers : List (List Answered)) (place index : ℕ) → value_answer_type (option_and_then (λ (given : List Answered). slice_get given index) (slice_get answers place))
     ≡ flat (option_and_then (λ (given : List (Option «Type»)). slice_get given index) (slice_get (map types_of answers) place))
-unfolding flat
 typed_at [] place index = refl
 typed_at (given ∷ answers) zero index = typed_in given index
 typed_at (given ∷ answers) (suc place) index = typed_at answers place index
@@ -211,7 +209,7 @@ none_behind (request ∷ script) (x ∷ xs) (suc place) behind =
     by false here further = further
 
 -- the answers to a call that isn't left: there are none
-no_answer : (script : Script) (ledger : Ledger) (place index : ℕ) → left_at script place ≡ false
+pub no_answer : (script : Script) (ledger : Ledger) (place index : ℕ) → left_at script place ≡ false
     → option_and_then (λ (types : List (Option «Type»)). slice_get types index) (slice_get (answers_along ledger script) place) ≡ None
 no_answer [] ledger place index sealing = refl
 no_answer (request ∷ script) ledger zero index sealing = by request sealing
@@ -249,7 +247,7 @@ module _ (rename : Name → Name) where
   left_with request script seals = map (renamed_request rename) (cond (not seals) (request ∷ without_seals script) (without_seals script))
 
   -- a ledger after a call that seals
-  behind_seal : (l l' : Ledger) (request : Request) → is_sealing request ≡ true → SameTables l l' → SameTables (ledger_with l request) l'
+  pub behind_seal : (l l' : Ledger) (request : Request) → is_sealing request ≡ true → SameTables l l' → SameTables (ledger_with l request) l'
   behind_seal l l' request seals same =
       let kept = sealing_keeps l request seals in
       record { variables = same.variables ∙ sym kept.variables; tables = same.tables ∙ sym kept.tables }

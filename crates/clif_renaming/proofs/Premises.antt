@@ -1,10 +1,11 @@
 -- Scripts that differ only in when blocks are sealed meet the premises in the same worlds, and functions that mean what they
 -- mean have the same meaning.
-use Rattle.std.proofs.Common.{◌≡◌, ◌↔◌, ℕ, List, drop, ap, subst}
+use Rattle.std.proofs.Common.{◌≡◌, ◌↔◌, ℕ, List, drop, ap, ◌∙◌, subst}
 use Rattle.std.specs.Prelude.{option_map, slice_get}
 use Rattle.clif_types.specs.Signature.{SignatureShape}
 use Rattle.clif_types.specs.StackSlot.{StackSlotShape}
 use Rattle.clif_types.specs.Target.{pointer_type_of}
+use Rattle.clif_types.specs.declared.target.PointerWidth.{PointerWidth}
 use Rattle.clif_types.specs.declared.types.«Type».{«Type»}
 use Rattle.clif_meaning.specs.FunctionView.{FunctionView}
 use Rattle.clif_meaning.specs.Headline.{IsWorldOf, function_behaviour, script_behaviour, script_run}
@@ -14,7 +15,7 @@ use Rattle.clif_meaning.specs.Name.{Name}
 use Rattle.clif_meaning.specs.Premises.{Premises}
 use Rattle.clif_meaning.specs.Program.{program_of}
 use Rattle.clif_meaning.specs.Request.{Script}
-use Rattle.clif_meaning.specs.SameMeaning.{SameMeaning}
+use Rattle.clif_meaning.specs.SameMeaning.{Behaviour, SameMeaning}
 use Rattle.clif_meaning.specs.ScriptMachine.{ScriptRun, script_machine}
 use Rattle.clif_meaning.specs.Store.{in_slots_from}
 use Rattle.clif_meaning.specs.Tracked.{is_tracked}
@@ -25,6 +26,7 @@ use Rattle.clif_renaming.specs.Sealing.{name_left, unsealed, without_seals}
 use Rattle.clif_renaming.proofs.Filled.{unsealed_filled}
 use Rattle.clif_renaming.proofs.Images.{bare_elsewhere}
 use Rattle.clif_renaming.proofs.ItemPremises.{exactly_then, libraries_alike, said_of_equals, targets_alike, tracked_alike, turned, typed_alike}
+use Rattle.clif_renaming.proofs.LockStep.{show_the_same}
 use Rattle.clif_renaming.proofs.Ledgers.{unsealed_tables, unsealed_types}
 use Rattle.clif_renaming.proofs.PlacedNames.{placed_alike}
 use Rattle.clif_renaming.proofs.Places.{names_apart}
@@ -98,18 +100,22 @@ premises_stay left right signature pointer f g world differ slots =
     (exactly_then (turned (premises_unsealed right signature pointer f world))
     (said_of_equals (λ (run : ScriptRun). Premises right signature pointer run) (script_run right f world) (script_run right g world) (same_run right f g world slots))))
 
+-- a world of a function is one of each function with the same slots
+pub world_of_both : (signature : SignatureShape) (width : PointerWidth) (f g : FunctionView) (world : World) → f.slots ≡ g.slots → IsWorldOf signature f width world → IsWorldOf signature g width world
+world_of_both signature width f g world slots is = record {
+  arguments = is.arguments;
+  pointers = is.pointers;
+  slots = subst (λ (list : List StackSlotShape). PlacesSlots world list) slots is.slots;
+}
+
+-- two functions that mean what is shown, where both are shown the same, have the same meaning
+pub mean_the_same : (shown other : Behaviour) (f g : Behaviour) → SameMeaning shown f → ((n : ℕ) → shown n ≡ other n) → SameMeaning other g → SameMeaning f g
+mean_the_same shown other f g first same second =
+    transitive f shown g (symmetric shown f first) (transitive shown other g (show_the_same shown other same).same_meaning second)
+
 pub functions_mean_the_same : FunctionsMeanTheSame
 functions_mean_the_same left right signature width f g world differ slots left_means right_means is left_meets =
-    let also : IsWorldOf signature g width world = record {
-      arguments = is.arguments;
-      pointers = is.pointers;
-      slots = subst (λ (list : List StackSlotShape). PlacesSlots world list) slots is.slots;
-    } in
-    let right_meets = (premises_stay left right signature (pointer_type_of width) f g world differ slots).0 left_meets in
-    let first = symmetric (script_behaviour left f world) (function_behaviour left f world) (left_means world is left_meets) in
-    let middle : SameMeaning (script_behaviour left f world) (script_behaviour right g world) =
-    subst (λ (run : ScriptRun). SameMeaning (script_behaviour left f world) (observed (script_machine run))) (same_run right f g world slots)
-    (same_shown left right f world differ).same_meaning in
-    transitive (function_behaviour left f world) (script_behaviour left f world) (function_behaviour right g world) first
-    (transitive (script_behaviour left f world) (script_behaviour right g world) (function_behaviour right g world) middle
-    (right_means world also right_meets))
+    mean_the_same (script_behaviour left f world) (script_behaviour right g world) (function_behaviour left f world) (function_behaviour right g world)
+    (left_means world is left_meets)
+    (λ n. (same_shown left right f world differ).each_step n ∙ ap (λ (run : ScriptRun). observed (script_machine run) n) (same_run right f g world slots))
+    (right_means world (world_of_both signature width f g world slots is) ((premises_stay left right signature (pointer_type_of width) f g world differ slots).0 left_meets))

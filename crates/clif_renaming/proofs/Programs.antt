@@ -56,7 +56,7 @@ module _ (rename : Name → Name) (apart : KeepsApart rename) where
     places = λ other. item_there (GoesAlong rename) block other (p.items other) (p'.items (rename other)) item item' (is.places other) along;
   }
 
-  item_more : (p p' : Program) (item item' : Item) → IsRenamedSoFar rename p p' → IsRenamedItem rename item item' → GoesAlong rename item item'
+  pub item_more : (p p' : Program) (item item' : Item) → IsRenamedSoFar rename p p' → IsRenamedItem rename item item' → GoesAlong rename item item'
       → IsRenamedSoFar rename (with_item p item) (with_item p' item')
   item_more p p' item item' is same along =
       subst (λ (current : Option Name). IsRenamedSoFar rename (with_item p item) (with_item_at p' current item')) (sym is.current)
@@ -130,7 +130,7 @@ module _ (rename : Name → Name) (apart : KeepsApart rename) where
     places = λ block. (redirected_both branch from to (p.items block) (p'.items (rename block)) (is.program.items block) (is.places block)).1;
   }
 
-  inserted : (p p' : Program) → IsRenamedSoFar rename p p' → IsRenamedSoFar rename (with_inserted p) (with_inserted p')
+  pub inserted : (p p' : Program) → IsRenamedSoFar rename p p' → IsRenamedSoFar rename (with_inserted p) (with_inserted p')
   inserted p p' is = record {
     current = is.current;
     program = record {
@@ -164,7 +164,7 @@ module _ (rename : Name → Name) (apart : KeepsApart rename) where
       by other false = is.program.parameters other
 
   -- the answers of a call whose place is renamed
-  answers_renamed : (place place' : ℕ) → ((index : ℕ) → rename (answer_of place index) ≡ answer_of place' index) → (index : ℕ) (types : List «Type»)
+  pub answers_renamed : (place place' : ℕ) → ((index : ℕ) → rename (answer_of place index) ≡ answer_of place' index) → (index : ℕ) (types : List «Type»)
       → answers_from place' index types ≡ map rename (answers_from place index types)
   answers_renamed place place' at index [] = refl
   answers_renamed place place' at index (ty ∷ types) =
@@ -226,8 +226,17 @@ module _ (rename : Name → Name) (apart : KeepsApart rename) where
   sealing_adds_nothing p Finalize is = let none : ⊥ = cc in absurd none
 
   -- the place aside
-  placed : (p p' : Program) (n n' : ℕ) → IsRenamedSoFar rename p p' → IsRenamedSoFar rename (record p { place = n }) (record p' { place = n' })
+  pub placed : (p p' : Program) (n n' : ℕ) → IsRenamedSoFar rename p p' → IsRenamedSoFar rename (record p { place = n }) (record p' { place = n' })
   placed p p' n n' is = record { current = is.current; program = record { entry = is.program.entry; parameters = is.program.parameters; items = is.program.items }; places = is.places }
+
+  -- after a call that seals, and after another one on both sides
+  pub behind_seal : (p p' : Program) (request : Request) → is_sealing request ≡ true → IsRenamedSoFar rename p p' → IsRenamedSoFar rename (with_call p request) p'
+  behind_seal p p' request seals is =
+      subst (λ (q : Program). IsRenamedSoFar rename (record q { place = suc p.place }) p') (sym (sealing_adds_nothing p request seals)) (placed p p' (suc p.place) p'.place is)
+
+  pub both_after : (p p' : Program) (request : Request) → IsRenamedSoFar rename p p' → ((index : ℕ) → rename (answer_of p.place index) ≡ answer_of p'.place index)
+      → IsRenamedSoFar rename (with_call p request) (with_call p' (renamed_request rename request))
+  both_after p p' request is at = placed (extended p request) (extended p' (renamed_request rename request)) (suc p.place) (suc p'.place) (extended_both p p' request is at)
 
   abbrev KeepsRenamed : Script → Type 0
   KeepsRenamed script = (p p' : Program) → IsRenamedSoFar rename p p' → Follows rename script p.place p'.place
@@ -245,14 +254,12 @@ module _ (rename : Name → Name) (apart : KeepsApart rename) where
       by : (c : Bool) → is_sealing request ≡ c → BothAfter request script p p' (is_sealing request)
       by true seals =
           subst (BothAfter request script p p') (sym seals)
-          (later (with_call p request) p'
-          (subst (λ (q : Program). IsRenamedSoFar rename (record q { place = suc p.place }) p') (sym (sealing_adds_nothing p request seals)) (placed p p' (suc p.place) p'.place is))
+          (later (with_call p request) p' (behind_seal p p' request seals is)
           (follows_seal rename request script p.place p'.place follows seals))
       by false stays =
           subst (BothAfter request script p p') (sym stays)
           (later (with_call p request) (with_call p' (renamed_request rename request))
-          (placed (extended p request) (extended p' (renamed_request rename request)) (suc p.place) (suc p'.place)
-          (extended_both p p' request is (follows_here rename request script p.place p'.place follows stays)))
+          (both_after p p' request is (follows_here rename request script p.place p'.place follows stays))
           (follows_call rename request script p.place p'.place follows stays))
 
   along : (script : Script) → KeepsRenamed script

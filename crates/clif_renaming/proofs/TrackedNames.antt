@@ -14,14 +14,14 @@ use Rattle.clif_renaming.proofs.Places.{Follows, follows_at_first, follows_call,
 use Rattle.clif_renaming.proofs.RenamedNames.{same_renamed}
 
 -- renamed names hold the renamed name where the names hold the name
-list_any_renamed : (rename : Name → Name) → KeepsApart rename → (name : Name) (names : List Name) → list_any (same_name (rename name)) (map rename names) ≡ list_any (same_name name) names
+pub list_any_renamed : (rename : Name → Name) → KeepsApart rename → (name : Name) (names : List Name) → list_any (same_name (rename name)) (map rename names) ≡ list_any (same_name name) names
 list_any_renamed rename apart name [] = refl
 list_any_renamed rename apart name (other ∷ names) =
     ap₂ (λ (a b : Bool). a || b) (same_renamed rename apart name other) (list_any_renamed rename apart name names)
 
 module _ (rename : Name → Name) (ledger ledger' : Ledger) (same : (variable : ℕ) → is_marked ledger' variable ≡ is_marked ledger variable) where
   -- what one call tracks
-  tracked_both : (request : Request) (place place' : ℕ) → ((index : ℕ) → rename (answer_of place index) ≡ answer_of place' index)
+  pub tracked_both : (request : Request) (place place' : ℕ) → ((index : ℕ) → rename (answer_of place index) ≡ answer_of place' index)
       → tracked_by ledger' place' (renamed_request rename request) ≡ map rename (tracked_by ledger place request)
   tracked_both CreateBlock place place' at = refl
   tracked_both (SwitchToBlock block) place place' at = refl
@@ -57,7 +57,7 @@ module _ (rename : Name → Name) (ledger ledger' : Ledger) (same : (variable : 
   tracked_both Finalize place place' at = refl
 
   -- a call that seals tracks nothing
-  sealing_tracks_none : (request : Request) (place : ℕ) → is_sealing request ≡ true → tracked_by ledger place request ≡ []
+  pub sealing_tracks_none : (request : Request) (place : ℕ) → is_sealing request ≡ true → tracked_by ledger place request ≡ []
   sealing_tracks_none (SealBlock block) place is = refl
   sealing_tracks_none SealAllBlocks place is = refl
   sealing_tracks_none CreateBlock place is = refl

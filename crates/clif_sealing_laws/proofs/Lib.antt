@@ -1,2 +1,4 @@
+pub mod calls
 pub mod Functions
 pub mod SwitchOrder
+pub mod Emitting

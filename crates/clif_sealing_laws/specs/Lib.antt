@@ -1,3 +1,4 @@
+pub mod CallsSealing
 pub mod Laws
 pub mod SwitchOrder
 pub mod Examples
