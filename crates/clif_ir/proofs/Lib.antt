@@ -15,6 +15,7 @@ pub mod KeepsBranch
 pub mod KeepsShape
 pub mod KeepsOperand
 pub mod KeepsEdge
+pub mod KeepsRegion
 pub mod Leading
 pub mod KeepsCold
 pub mod Orders

@@ -1,8 +1,9 @@
 -- What each call that changes a function makes of it. Source: own.
-use Rattle.std.specs.Prelude.{◌≡◌, ◌-◌, ◌^◌, ◌<◌, ◌⊎◌, ℕ, List, [], ◌∷◌, ◌++◌, ◌+◌, ◌==◌, length, slice_set, if◌then◌else◌, true}
+use Rattle.std.specs.Prelude.{◌≡◌, ◌-◌, ◌^◌, ◌<◌, ◌⊎◌, ℕ, Option, List, [], ◌∷◌, ◌++◌, ◌+◌, ◌==◌, length, slice_set, if◌then◌else◌, true}
 use Rattle.std.specs.List.{range_with_len}
 use Rattle.clif_types.specs.declared.types.«Type».{«Type»}
 use Rattle.clif_instructions.specs.declared.instructions.InstructionData.{InstructionData}
+use Rattle.clif_instructions.specs.declared.instructions.InstructionData.TheVariants.{Load, Store}
 use Rattle.clif_tables.specs.Lists.{TableLists}
 use Rattle.clif_nodes.specs.declared.nodes.ValueOrigin.{ValueOrigin}
 use Rattle.clif_nodes.specs.declared.nodes.ValueOrigin.TheVariants.{Result, Param, Alias}
@@ -94,6 +95,16 @@ with_edge_at f i edge call = with_shape f i (with_edge edge call (inst_at f i).s
 -- with value `v` as the context at this item of the exception table of instruction `i`
 abbrev pub with_context_of : Body → ℕ → ℕ → ℕ → Body
 with_context_of f i item v = with_shape f i (with_context item v (inst_at f i).shape)
+
+-- an access that names this alias region, or none; another instruction stays
+abbrev pub in_region : Option ℕ → InstructionData → InstructionData
+in_region region (Load flags arg offset) = Load (record flags { alias_region = region }) arg offset
+in_region region (Store flags args offset) = Store (record flags { alias_region = region }) args offset
+in_region region shape = shape
+
+-- with instruction `i` naming this alias region
+abbrev pub with_alias_region : Body → ℕ → Option ℕ → Body
+with_alias_region f i region = with_shape f i (in_region region (inst_at f i).shape)
 
 -- the block of a value that is a parameter
 abbrev pub home_of : ValueOrigin → ℕ

@@ -1,5 +1,5 @@
-//! The calls that rewrite an instruction in its place, which are its targets, its operands, and what its edges pass,
-//! and those that put an instruction beside another one.
+//! The calls that rewrite an instruction in its place, which are its targets, its operands, what its edges pass and the
+//! alias region of an access, and those that put an instruction beside another one.
 //!
 //! A call that rewrites takes no memory, and can't fail. The number of the instruction stays, and so do its results,
 //! its block and its source place.
@@ -8,7 +8,7 @@ ghost use Rattle.clif_instructions.specs.Edges.{edge_at};
 ghost use Rattle.clif_instructions.specs.Instruction.{contexts, entries_of, items_of, operands, destinations};
 ghost use Rattle.clif_tables.specs.Callees.{count_of_results, types_of_results};
 ghost use Rattle.clif_ir.specs.Body.{block_at, inst_at, resolved};
-ghost use Rattle.clif_ir.specs.Changes.{HasNoRoom, with_branch_target, with_context_of, with_edge_at, with_inst, with_operand_at, with_passed_argument};
+ghost use Rattle.clif_ir.specs.Changes.{HasNoRoom, in_region, with_alias_region, with_branch_target, with_context_of, with_edge_at, with_inst, with_operand_at, with_passed_argument};
 ghost use Rattle.clif_ir.specs.Consistent.{EdgeExists, EntryExists, ValueExists};
 ghost use Rattle.clif_ir.specs.Reading.{place_in_block};
 
@@ -16,7 +16,18 @@ use crate::function::Function;
 use clif_instructions::block_call::BlockCall;
 use clif_instructions::insert_at::InsertAt;
 use clif_instructions::instructions::InstructionData;
-use clif_types::{Block, BuildError, EntityRef, Inst, SourceLoc, Type, Value};
+use clif_types::{AliasRegion, Block, BuildError, EntityRef, Inst, SourceLoc, Type, Value};
+
+// Makes `region` the alias region of an access.
+fn name_region(shape: &mut InstructionData, region: Option<AliasRegion>)
+    ensures { shape.new ≡ in_region region shape.old }
+{
+    match shape {
+        InstructionData::Load { flags, .. } => flags.set_alias_region(region),
+        InstructionData::Store { flags, .. } => flags.set_alias_region(region),
+        _ => {}
+    }
+}
 
 impl Function {
     /// Makes each edge of an instruction that goes to `from` go to `to`. What it passes stays.
@@ -71,6 +82,15 @@ impl Function {
         ensures { self.new ≡ with_context_of self.old inst item value }
     {
         self.insts[inst.index()].shape.set_context(item, value);
+    }
+
+    /// Makes `region` the alias region that a load or a store names, or takes away the one that it names. Every other
+    /// instruction stays as it is.
+    pub fn set_alias_region(&mut self, inst: Inst, region: Option<AliasRegion>)
+        requires { inst < length self.old.insts }
+        ensures { self.new ≡ with_alias_region self.old inst region }
+    {
+        name_region(&mut self.insts[inst.index()].shape, region);
     }
 
     /// Makes an instruction and puts it right before the instruction `next` of a block.

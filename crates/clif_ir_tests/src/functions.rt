@@ -8,6 +8,7 @@ mod calls;
 mod edges;
 mod forms;
 mod numbers;
+mod regions;
 mod rewrites;
 mod rows;
 mod shapes;

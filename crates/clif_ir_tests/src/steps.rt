@@ -13,8 +13,8 @@ use clif_instructions::instructions::InstructionData;
 use clif_ir::ValueLabelStart;
 use clif_ir::function::Function;
 use clif_types::{
-    AliasRegionData, CallConv, EntityRef, ExtFuncData, ExternalName, SourceLoc, StackSlotData,
-    Type, UserFuncName, ValueLabel,
+    AliasRegion, AliasRegionData, CallConv, EntityRef, ExtFuncData, ExternalName, SourceLoc,
+    StackSlotData, Type, UserFuncName, ValueLabel,
 };
 use std::alloc::Global;
 use std::process::Abort;
@@ -92,6 +92,8 @@ pub enum Step<'a> {
     Edge(u32, usize, To<'a>),
     /// Replaces an item of the exception table of an instruction by this context.
     ReplaceContext(u32, usize, u32),
+    /// Makes this region that of an access, or takes the access' region away.
+    NameRegion(u32, Option<u32>),
     /// Gives an instruction a stack map: for each entry its type, its slot, and the distance from the slot's begin.
     StackMap(u32, &'static [(Type, u32, u32)]),
     /// Collects labels of values from here on.
@@ -274,6 +276,17 @@ fn context(rt: &impl Abort, func: &mut Function, inst: u32, item: usize, value: 
     func.replace_context(inst, item, value);
 }
 
+fn name_region(rt: &impl Abort, func: &mut Function, inst: u32, region: Option<u32>) {
+    let inst = inst_of(rt, func, inst);
+    match region {
+        Some(number) => {
+            assert!(rt; number < 1000);
+            func.set_alias_region(inst, Some(AliasRegion::from_u32(number)));
+        }
+        None => func.set_alias_region(inst, None),
+    }
+}
+
 fn stack_map(
     rt: &impl Abort,
     func: &mut Function,
@@ -361,6 +374,7 @@ fn make_surely(rt: &impl Abort, func: &mut Function, step: Step<'_>, name: &str)
         Step::Operand(inst, place, value) => operand(rt, func, inst, place, value),
         Step::Argument(inst, edge, place, value) => argument(rt, func, inst, edge, place, value),
         Step::ReplaceContext(inst, item, value) => context(rt, func, inst, item, value),
+        Step::NameRegion(inst, region) => name_region(rt, func, inst, region),
         Step::Collect => func.collect_debug_info(),
         Step::Is(fact) => assert!(rt; holds(rt, func, fact), "{name}"),
         _ => assert!(rt; false, "{name}"),
@@ -407,6 +421,7 @@ fn make(rt: &impl Abort, func: &mut Function, step: Step<'_>, name: &str) -> Res
         | Step::Operand(..)
         | Step::Argument(..)
         | Step::ReplaceContext(..)
+        | Step::NameRegion(..)
         | Step::Collect
         | Step::Is(_) => {
             make_surely(rt, func, step, name);

@@ -1,13 +1,14 @@
 //! Instructions that are rewritten in their place, or put beside another one: the text before and after.
 #![tactic(auto)]
 
+use crate::instructions::Flags::Each;
 use crate::instructions::NO_FLAGS;
 use crate::instructions::Plain::{
     Binary, Concat, CondTrap, Convert, Icmp, Iconst, Load, Select, Split, StackStore, Store, Unary,
 };
 use crate::steps::Step::{
-    After, Append, Argument, Before, Create, Edge, Go, LayOut, Operand, Param, Prints, Put, Region,
-    Slot, Target,
+    After, Append, Argument, Before, Create, Edge, Go, LayOut, NameRegion, Operand, Param, Prints,
+    Put, Region, Slot, Target,
 };
 use crate::steps::{Case, SAMPLE, make_all};
 use crate::transfers::Arg::Known;
@@ -22,7 +23,35 @@ use clif_types::TrapCode::User;
 use clif_types::types::{I32, I64, I128, INVALID};
 use std::test::Fail;
 
-static CASES: [Case; 6] = [
+static CASES: [Case; 7] = [
+    // Accesses name other regions, or none; their other flags stay, and so does what is no access.
+    Case {
+        name: "regions",
+        head: SAMPLE,
+        steps: &[
+            Create,
+            LayOut(0),
+            Region(7),
+            Region(8),
+            Param(0, I64),
+            Put(0, I32, Load(Each(true, false, None), 0, 0)),
+            Put(0, I32, Store(Each(false, true, Some(0)), 1, 0, 4)),
+            Put(0, I32, Binary(Iadd, 1, 1)),
+            NameRegion(0, Some(1)),
+            NameRegion(1, Some(1)),
+            NameRegion(2, Some(1)),
+            Go(0, Return(&[])),
+            NameRegion(3, Some(0)),
+            Prints(
+                "function %sample() system_v {\n    region0 = user 7\n    region1 = user 8\n\nblock0(v0: i64):\n    v1 = load.i32 notrap region1 v0\n    store aligned region1 v1, v0+4\n    v2 = iadd v1, v1\n    return\n}\n",
+            ),
+            NameRegion(0, None),
+            NameRegion(1, Some(99)),
+            Prints(
+                "function %sample() system_v {\n    region0 = user 7\n    region1 = user 8\n\nblock0(v0: i64):\n    v1 = load.i32 notrap v0\n    store aligned region99 v1, v0+4\n    v2 = iadd v1, v1\n    return\n}\n",
+            ),
+        ],
+    },
     // All edges to the block change, and no other edge does. What they pass stays.
     Case {
         name: "targets",

@@ -31,7 +31,7 @@ use std::test::Fail;
 // Half of a number of 128 bits, 2^63 + 1 as a number with a sign.
 const HALF: i64 = -0x7fff_ffff_ffff_ffff;
 
-static CASES: [Case; 6] = [
+pub(super) static CASES: [Case; 6] = [
     // The row slot_reuse: two values, one after the other, each passed to two calls. They take one slot, which the first call
     // of each pair names.
     Case {
