@@ -9,7 +9,7 @@ use clif_calls::{Call, EntryCall, Moves, OutsideAnswer};
 use clif_interpreter::{function, script};
 use clif_ir::Function;
 use clif_types::{AbiParam, PointerWidth, Signature};
-use clif_worlds::{Beside, Collector, End, Ending, Memory, Mover, RunError, World};
+use clif_worlds::{Beside, Cause, Collector, End, Ending, Memory, Mover, RunError, World};
 use std::alloc::{AllocError, Global};
 use std::fmt;
 
@@ -107,7 +107,8 @@ fn first_memory(alloc: Global) -> Result<Memory, AllocError> {
 ///
 /// # Errors
 ///
-/// Those of [`script::run_beside`], and where a stack slot of the function has no place.
+/// Those of [`script::run_beside`], and where a stack slot of the function has no place, a value of its run has more than 128 bits,
+/// or memory is refused there.
 pub fn compare(
     alloc: Global,
     calls: &[Call],
@@ -140,6 +141,8 @@ pub fn compare(
     let script = script::run_beside(alloc, calls, signature, &world, &beside, steps)?;
     let function = match function::run_collected(alloc, func, &world, collector, steps) {
         Ok((ending, _)) => Ok(ending),
+        // A limit of the interpreter says nothing of the function.
+        Err(error) if is_limit(error.cause) => return Err(error),
         Err(error) => Err(error),
     };
     Ok(Comparison {
@@ -147,6 +150,14 @@ pub fn compare(
         function,
         steps,
     })
+}
+
+// Whether the interpreter can't go on. That a call lacks an item is a fault of what is run.
+fn is_limit(cause: Cause) -> bool {
+    match cause {
+        Cause::Fault(fault) => fault.is_limit(),
+        _ => false,
+    }
 }
 
 // How many stack slots calls make.
