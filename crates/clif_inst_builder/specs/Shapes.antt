@@ -101,6 +101,11 @@ try_call function args exception = TryCall function args exception
 abbrev pub try_call_indirect : ℕ → List ℕ → ExceptionShape → InstructionData
 try_call_indirect callee args exception = TryCallIndirect (callee ∷ args) exception
 
+-- an instruction of this shape goes nowhere and ends no block
+pub record IsStraight (shape : InstructionData) : Type 0 where
+  pub no_branch : is_branch shape ≡ false
+  pub goes_on : is_terminator shape ≡ false
+
 -- an instruction of this shape has one result, calls nothing, goes nowhere and ends no block
 pub record GivesValue (shape : InstructionData) : Type 0 where
   pub no_call : is_call shape ≡ false

@@ -2,7 +2,7 @@
 ghost use Rattle.std.specs.Prelude.{◌≡◌, ◌∷◌, [], length, Err, All};
 ghost use Rattle.clif_instructions.specs.Instruction.{AConstant, contexts, entries_of, operands, destinations};
 ghost use Rattle.clif_inst_builder.specs.Served.{exception_tables, jump_tables};
-ghost use Rattle.clif_inst_builder.specs.Shapes.{AfterPooling, AfterTaking, AfterValue, GivesPair, GivesValue, LikeIsValue};
+ghost use Rattle.clif_inst_builder.specs.Shapes.{AfterPooling, AfterTaking, AfterValue, GivesPair, GivesValue, IsStraight, LikeIsValue};
 
 use clif_instructions::exception_table::ExceptionTargets;
 use clif_instructions::instructions::InstructionData;
@@ -98,6 +98,23 @@ pub trait InstBuilderBase {
         requires edges { All (can_lead self.old) (destinations shape) }
         requires entries_exist { All (has_entry self.old) (entries_of shape) }
         ensures built { builds self.old self.new shape ctrl_type result };
+
+    #[tactic(auto, using(crate::proofs::NoCalls::straight_rules))]
+    /// Appends an instruction that neither branches nor ends the block, so that one can build on; `ctrl_type` is its
+    /// controlling type.
+    final fn build_aux_inst(
+        &mut self,
+        shape: InstructionData,
+        ctrl_type: Type,
+    ) -> Result<Inst, BuildError>
+        requires current { Self.can_build self.old }
+        requires operands_exist { All (Self.has_value self.old) (operands shape) }
+        requires entries_exist { All (Self.has_entry self.old) (entries_of shape) }
+        requires straight { IsStraight shape }
+        ensures built { Self.builds self.old self.new shape ctrl_type result }
+    {
+        self.build(shape, ctrl_type)
+    }
 
     /// Appends an instruction that has one result and goes on behind it, and returns the result's value.
     fn build_value(&mut self, shape: InstructionData, ctrl_type: Type) -> Result<Value, BuildError>

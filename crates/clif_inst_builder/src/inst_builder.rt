@@ -379,7 +379,8 @@ pub trait InstBuilder: InstBuilderBase {
     }
 
     /// `stack_addr.ty slot+offset`: the address of a stack slot plus `offset`, which counts modulo the width of pointers:
-    /// its low bits, with zeros above them at a wider type.
+    /// its low bits, with zeros above them at a wider type. It may be made at any type, and `check` tells one that isn't an
+    /// integer.
     final fn stack_addr(
         &mut self,
         ty: Type,
@@ -387,7 +388,7 @@ pub trait InstBuilder: InstBuilderBase {
         offset: i32,
     ) -> Result<Value, BuildError>
         requires current { Self.can_build self.old }
-        requires integer { IsTrue (is_int ty) }
+        requires valid { IsTrue (is_type ty) }
         requires slot_exists { Self.has_entry self.old (ASlot slot) }
         ensures built { Self.builds_value self.old self.new
             (stack StackOpcode.StackAddr slot offset) ty result }

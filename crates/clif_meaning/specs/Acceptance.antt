@@ -10,7 +10,6 @@ use Rattle.clif_opcodes.specs.declared.opcodes.FloatConstOpcode.{FloatConstOpcod
 use Rattle.clif_opcodes.specs.declared.opcodes.PooledConstOpcode.{PooledConstOpcode}
 use Rattle.clif_opcodes.specs.declared.opcodes.PooledConstOpcode.TheVariants.{F128const, Vconst}
 use Rattle.clif_opcodes.specs.declared.opcodes.StackOpcode.{StackOpcode}
-use Rattle.clif_opcodes.specs.declared.opcodes.StackOpcode.TheVariants.{StackAddr, StackLoad}
 use Rattle.clif_instructions.specs.Instruction.{EntryRef, ASlot, AConstant, ASignatureRef, AFunctionRef}
 use Rattle.clif_opcodes.specs.declared.kinds.Demand.TheVariants.{ADoubled, AHalved, AVector}
 use Rattle.clif_opcodes.specs.Kinds.{is_met}
@@ -73,8 +72,7 @@ can_operate (Compute (CompareConstant condition number)) ty = false
 can_operate (Switch keys) ty = false
 can_operate (Bytes operation) ty = false
 can_operate (Load flags offset) ty = is_type ty
-can_operate (Stack StackAddr slot offset) ty = is_int ty
-can_operate (Stack StackLoad slot offset) ty = is_type ty
+can_operate (Stack opcode slot offset) ty = is_type ty
 can_operate _ ty = true
 
 -- an entry that an operation names was made

@@ -7,7 +7,7 @@ use crate::calls::queries::Query::{
     Unreachable,
 };
 use crate::calls::steps::Deed::{
-    Branch, Change, Create, End, Return, Seal, SealAll, Shaped, Switch,
+    Auxiliary, Branch, Change, Create, End, Return, Seal, SealAll, Shaped, Switch,
 };
 use crate::calls::steps::Entry::{DynamicSlot, Function, GlobalContext, Signature, Slot};
 use crate::calls::steps::Note::{CollectLabels, Label, Place};
@@ -53,19 +53,20 @@ fn queries(rt: HostRuntime) -> Result<(), Fail> {
     finishes(&rt, rt.alloc(), plain("queries"), &parts, Err(unsealed))
 }
 
-const SHAPED: [Step; 5] = [
+const SHAPED: [Step; 6] = [
     Do(Create),
     Do(Switch(0)),
     Do(Shaped(5)),
+    Do(Auxiliary(6)),
     Do(End),
     Do(SealAll),
 ];
 
-/// An instruction of any shape, and the text of it.
+/// Instructions of any shape, and the text of them.
 #[test]
 fn built_by_shape(rt: HostRuntime) -> Result<(), Fail> {
     let text =
-        "function %shape() -> i32 system_v {\nblock0:\n    v0 = iconst.i32 5\n    return\n}\n";
+        "function %shape() -> i32 system_v {\nblock0:\n    v0 = iconst.i32 5\n    v1 = iconst.i32 6\n    return\n}\n";
     builds(&rt, rt.alloc(), plain("shape"), &SHAPED, text)
 }
 

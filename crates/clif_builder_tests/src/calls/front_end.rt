@@ -102,6 +102,15 @@ pub fn shaped_constant(rt: &impl Abort, builder: &mut FunctionBuilder<'_>, imm: 
     assert!(rt; builder.inst_results(inst).len() == 1);
 }
 
+/// The same, as an instruction that neither branches nor ends its block.
+pub fn auxiliary_constant(rt: &impl Abort, builder: &mut FunctionBuilder<'_>, imm: i64) {
+    asserts_current(rt, builder);
+    let shape = InstructionData::UnaryImm { imm };
+    let inst = builder.ins().build_aux_inst(shape, I32);
+    let inst = inst.expect(rt, "a constant");
+    assert!(rt; builder.inst_results(inst).len() == 1);
+}
+
 /// A value, by way of its double, which a generic caller makes.
 pub fn by_double(rt: &impl Abort, builder: &mut FunctionBuilder<'_>, x: Value) -> Value {
     asserts_current(rt, builder);

@@ -62,6 +62,8 @@ pub enum Deed {
     Declare(u8, Type),
     /// A constant, by its shape.
     Shaped(i64),
+    /// The same, as an instruction that neither branches nor ends its block.
+    Auxiliary(i64),
     Branch(usize, u8, u8),
     /// Jumps to a block, and passes these values.
     Jump(u8, &'static [usize]),
@@ -222,6 +224,7 @@ fn act(rt: &impl Abort, builder: &mut FunctionBuilder<'_>, values: &[Value], dee
         Deed::SealAll => front_end::seal_all(rt, builder),
         Deed::Declare(number, ty) => front_end::declare(rt, builder, ty, number),
         Deed::Shaped(imm) => front_end::shaped_constant(rt, builder, imm),
+        Deed::Auxiliary(imm) => front_end::auxiliary_constant(rt, builder, imm),
         Deed::Branch(condition, taken, other) => {
             let condition = named(rt, values, condition);
             front_end::branch(rt, builder, condition, block(taken), block(other));
