@@ -9,24 +9,16 @@ ghost use Rattle.clif_arguments.specs.Taking.{names_in};
 
 use crate::entries::read_entry_call;
 use crate::immediate::read_immediate_call;
-use crate::instructions::{
-    binary_named, cond_trap_named, convert_named, float_const_named, read_binary_call,
-    read_cond_trap_call, read_convert_call, read_f128const_call, read_float_const_call,
-    read_icmp_call, read_iconcat_call, read_isplit_call, read_load_call, read_select_call,
-    read_stack_call, read_stack_store_call, read_store_call, read_unary_call, read_vconst_call,
-    stack_named, unary_named,
-};
+use crate::instructions::{opcode_named, read_typed_call, read_untyped_call};
 use crate::memory::read_memory_call;
 use crate::outside::read_outside_call;
 use crate::switch::read_switch_call;
 use crate::throwing::read_throwing_call;
 use clif_arguments::args::Args;
-use clif_arguments::refusals::unknown_type;
 use clif_arguments::scope::Scope;
 use clif_calls::{Call, PlainInstruction};
 use clif_types::SourceLoc;
 use clif_words::error::{Expected, Fault, LineError};
-use clif_words::types::type_named;
 use std::alloc::Global;
 
 // The call of this name, with what follows it; not all of that may be taken.
@@ -168,7 +160,8 @@ fn behind_cursor(error: LineError<'_>) -> LineError<'_> {
     }
 }
 
-// The same for an instruction of a format that has several.
+// The same for an instruction that neither branches nor ends its block: its name stands alone, or has a type behind it, as
+// `iconst.i32`.
 fn read_instruction<'a>(
     alloc: Global,
     head: &'a str,
@@ -176,47 +169,20 @@ fn read_instruction<'a>(
 ) -> Result<Call, LineError<'a>>
     ensures { IfOk result (ReadsCall args.old args.new head.now) }
 {
-    if let Some(opcode) = unary_named(head) {
-        return read_unary_call(head, opcode, args);
+    if let Some(opcode) = opcode_named(head) {
+        return read_untyped_call(alloc, head, opcode, args);
     }
-    if let Some(opcode) = float_const_named(head) {
-        return read_float_const_call(head, opcode, args);
-    }
-    if let Some(opcode) = cond_trap_named(head) {
-        return read_cond_trap_call(head, opcode, args);
-    }
-    match binary_named(head) {
-        Some(opcode) => read_binary_call(head, opcode, args),
-        None => read_single_instruction(alloc, head, args),
-    }
-}
-
-// The same for the one instruction of its format.
-fn read_single_instruction<'a>(
-    alloc: Global,
-    head: &'a str,
-    args: &mut Args<'_, 'a>,
-) -> Result<Call, LineError<'a>>
-    ensures { IfOk result (ReadsCall args.old args.new head.now) }
-{
-    match head {
-        "iconcat" => read_iconcat_call(head, args),
-        "isplit" => read_isplit_call(head, args),
-        "icmp" => read_icmp_call(head, args),
-        "select" => read_select_call(head, args),
-        "store" => read_store_call(head, args),
-        "stack_store" => read_stack_store_call(head, args),
-        "f128const" => read_f128const_call(alloc, head, args),
-        _ => read_block_call(alloc, head, args),
+    let Some((name, suffix)) = name_and_type(head) else {
+        return read_block_call(head, args);
+    };
+    match opcode_named(name) {
+        Some(opcode) => read_typed_call(alloc, head, opcode, suffix, args),
+        None => Err(LineError::Fault(Fault::UnknownCall(head))),
     }
 }
 
 // The same for a call that makes, marks or places blocks.
-fn read_block_call<'a>(
-    alloc: Global,
-    head: &'a str,
-    args: &mut Args<'_, 'a>,
-) -> Result<Call, LineError<'a>>
+fn read_block_call<'a>(head: &'a str, args: &mut Args<'_, 'a>) -> Result<Call, LineError<'a>>
     ensures { IfOk result (ReadsCall args.old args.new head.now) }
 {
     match head {
@@ -230,7 +196,7 @@ fn read_block_call<'a>(
         | "append_block_param"
         | "append_block_params_for_function_params"
         | "append_block_params_for_function_returns" => read_call_at_block(head, args),
-        _ => read_typed_call(alloc, head, args),
+        _ => Err(LineError::Fault(Fault::UnknownCall(head))),
     }
 }
 
@@ -261,56 +227,11 @@ fn read_call_at_block<'a>(head: &'a str, args: &mut Args<'_, 'a>) -> Result<Call
     }
 }
 
-// The same for a call whose name has a type behind it, as `iconst.i32`.
-fn read_typed_call<'a>(
-    alloc: Global,
-    head: &'a str,
-    args: &mut Args<'_, 'a>,
-) -> Result<Call, LineError<'a>>
-    ensures { IfOk result (ReadsCall args.old args.new head.now) }
-{
-    let Some((name, suffix)) = name_and_type(head) else {
-        return Err(not_understood(head, head));
-    };
-    match name {
-        "iconst" => {
-            let Some(ty) = type_named(suffix) else {
-                return Err(unknown_type(suffix, Expected::Type));
-            };
-            let imm = args.number()?;
-            Ok(Call::Plain(PlainInstruction::Iconst { ty, imm }))
-        }
-        "load" => read_load_call(head, suffix, args),
-        "vconst" => read_vconst_call(alloc, head, suffix, args),
-        _ => {
-            if let Some(opcode) = convert_named(name) {
-                return read_convert_call(head, opcode, suffix, args);
-            }
-            match stack_named(name) {
-                Some(opcode) => read_stack_call(head, opcode, suffix, args),
-                None => Err(not_understood(head, name)),
-            }
-        }
-    }
-}
-
 // The name of a call, and the type behind it.
 fn name_and_type(head: &str) -> Option<(&str, &str)>
     ensures { IfSome result (λ parts. head.now ≡ parts.0.now ++ (codes "." ++ parts.1.now)) }
 {
     head.split_once('.')
-}
-
-// No call is read that has this name, in front of the type that may follow.
-fn not_understood<'a>(head: &'a str, name: &'a str) -> LineError<'a> {
-    let wants_type = matches!(name, "iconst" | "load" | "vconst")
-        || convert_named(name).is_some()
-        || stack_named(name).is_some();
-    if wants_type {
-        LineError::Fault(Fault::NoType)
-    } else {
-        LineError::Fault(Fault::UnknownCall(head))
-    }
 }
 
 /// The call that the words stand for, of which the first is its name.

@@ -1,100 +1,140 @@
 //! Instructions that neither branch nor end their block: their names, and what follows these, by format.
 ghost use Rattle.std.specs.Prelude.{◌≡◌, ◌++◌, IfOk, IfSome, codes};
-ghost use Rattle.clif_opcodes.specs.Names.{binary_name, cond_trap_name, convert_name, float_const_name, stack_name, unary_name};
+ghost use Rattle.clif_opcodes.specs.Names.{binary_name, cond_trap_name, convert_name, float_const_name, opcode_name, stack_name, unary_name};
 ghost use Rattle.clif_text.specs.Reading.{ReadsCall};
 
 use clif_arguments::args::Args;
 use clif_arguments::refusals::unknown_type;
 use clif_calls::{Call, PlainInstruction};
 use clif_opcodes::{
-    BinaryOpcode, CondTrapOpcode, ConvertOpcode, FloatConstOpcode, StackOpcode, UnaryOpcode,
+    BinaryOpcode, CondTrapOpcode, ConvertOpcode, FloatConstOpcode, Opcode, PooledConstOpcode,
+    StackOpcode, UnaryOpcode,
 };
-use clif_words::error::{Expected, LineError};
+use clif_words::error::{Expected, Fault, LineError};
 use clif_words::types::type_named;
 use std::alloc::Global;
 
-/// The operation of this name, of one value: one row per instruction.
-pub(crate) fn unary_named(name: &str) -> Option<UnaryOpcode>
-    ensures { IfSome result (λ opcode. name.now ≡ unary_name opcode) }
+// The instructions that neither branch nor end their block: a row each.
+const PLAIN_OPCODES: [Opcode; 36] = [
+    Opcode::Iconst,
+    Opcode::FloatConst(FloatConstOpcode::F16const),
+    Opcode::FloatConst(FloatConstOpcode::F32const),
+    Opcode::FloatConst(FloatConstOpcode::F64const),
+    Opcode::PooledConst(PooledConstOpcode::F128const),
+    Opcode::PooledConst(PooledConstOpcode::Vconst),
+    Opcode::Unary(UnaryOpcode::Ineg),
+    Opcode::Unary(UnaryOpcode::Bnot),
+    Opcode::Binary(BinaryOpcode::Iadd),
+    Opcode::Binary(BinaryOpcode::Isub),
+    Opcode::Binary(BinaryOpcode::Imul),
+    Opcode::Binary(BinaryOpcode::Band),
+    Opcode::Binary(BinaryOpcode::Bor),
+    Opcode::Binary(BinaryOpcode::Bxor),
+    Opcode::Binary(BinaryOpcode::Ishl),
+    Opcode::Binary(BinaryOpcode::Ushr),
+    Opcode::Binary(BinaryOpcode::Sshr),
+    Opcode::Binary(BinaryOpcode::Udiv),
+    Opcode::Binary(BinaryOpcode::Sdiv),
+    Opcode::Binary(BinaryOpcode::Urem),
+    Opcode::Binary(BinaryOpcode::Srem),
+    Opcode::Convert(ConvertOpcode::Splat),
+    Opcode::Convert(ConvertOpcode::Uextend),
+    Opcode::Convert(ConvertOpcode::Sextend),
+    Opcode::Convert(ConvertOpcode::Ireduce),
+    Opcode::Iconcat,
+    Opcode::Isplit,
+    Opcode::Icmp,
+    Opcode::Select,
+    Opcode::Load,
+    Opcode::Store,
+    Opcode::Stack(StackOpcode::StackAddr),
+    Opcode::Stack(StackOpcode::StackLoad),
+    Opcode::StackStore,
+    Opcode::CondTrap(CondTrapOpcode::Trapz),
+    Opcode::CondTrap(CondTrapOpcode::Trapnz),
+];
+
+/// The opcode of this name, of an instruction that neither branches nor ends its block.
+pub(crate) fn opcode_named(name: &str) -> Option<Opcode>
+    ensures { IfSome result (λ opcode. name.now ≡ opcode_name opcode) }
 {
-    match name {
-        "ineg" => Some(UnaryOpcode::Ineg),
-        "bnot" => Some(UnaryOpcode::Bnot),
-        _ => None,
+    for opcode in PLAIN_OPCODES.iter() {
+        if opcode.name() == name {
+            return Some(*opcode);
+        }
+    }
+    None
+}
+
+/// The instruction with this name and no type behind it.
+pub(crate) fn read_untyped_call<'a>(
+    alloc: Global,
+    head: &'a str,
+    opcode: Opcode,
+    args: &mut Args<'_, 'a>,
+) -> Result<Call, LineError<'a>>
+    requires { head.now ≡ opcode_name opcode }
+    ensures { IfOk result (ReadsCall args.old args.new head.now) }
+{
+    match opcode {
+        Opcode::Unary(opcode) => read_unary_call(head, opcode, args),
+        Opcode::Binary(opcode) => read_binary_call(head, opcode, args),
+        Opcode::FloatConst(opcode) => read_float_const_call(head, opcode, args),
+        Opcode::CondTrap(opcode) => read_cond_trap_call(head, opcode, args),
+        Opcode::PooledConst(PooledConstOpcode::F128const) => {
+            read_f128const_call(alloc, head, args)
+        }
+        Opcode::Iconcat => read_iconcat_call(head, args),
+        Opcode::Isplit => read_isplit_call(head, args),
+        Opcode::Icmp => read_icmp_call(head, args),
+        Opcode::Select => read_select_call(head, args),
+        Opcode::Store => read_store_call(head, args),
+        Opcode::StackStore => read_stack_store_call(head, args),
+        _ => Err(LineError::Fault(Fault::NoType)),
     }
 }
 
-/// The operation of this name, of two values: one row per instruction.
-pub(crate) fn binary_named(name: &str) -> Option<BinaryOpcode>
-    ensures { IfSome result (λ opcode. name.now ≡ binary_name opcode) }
+/// The instruction with this name and this type behind it.
+pub(crate) fn read_typed_call<'a>(
+    alloc: Global,
+    head: &'a str,
+    opcode: Opcode,
+    suffix: &'a str,
+    args: &mut Args<'_, 'a>,
+) -> Result<Call, LineError<'a>>
+    requires { head.now ≡ opcode_name opcode ++ (codes "." ++ suffix.now) }
+    ensures { IfOk result (ReadsCall args.old args.new head.now) }
 {
-    match name {
-        "iadd" => Some(BinaryOpcode::Iadd),
-        "isub" => Some(BinaryOpcode::Isub),
-        "imul" => Some(BinaryOpcode::Imul),
-        "band" => Some(BinaryOpcode::Band),
-        "bor" => Some(BinaryOpcode::Bor),
-        "bxor" => Some(BinaryOpcode::Bxor),
-        "ishl" => Some(BinaryOpcode::Ishl),
-        "ushr" => Some(BinaryOpcode::Ushr),
-        "sshr" => Some(BinaryOpcode::Sshr),
-        "udiv" => Some(BinaryOpcode::Udiv),
-        "sdiv" => Some(BinaryOpcode::Sdiv),
-        "urem" => Some(BinaryOpcode::Urem),
-        "srem" => Some(BinaryOpcode::Srem),
-        _ => None,
+    match opcode {
+        Opcode::Iconst => read_iconst_call(head, suffix, args),
+        Opcode::Load => read_load_call(head, suffix, args),
+        Opcode::PooledConst(PooledConstOpcode::Vconst) => {
+            read_vconst_call(alloc, head, suffix, args)
+        }
+        Opcode::Convert(opcode) => read_convert_call(head, opcode, suffix, args),
+        Opcode::Stack(opcode) => read_stack_call(head, opcode, suffix, args),
+        _ => Err(LineError::Fault(Fault::UnknownCall(head))),
     }
 }
 
-/// The conversion of this name: one row per instruction.
-pub(crate) fn convert_named(name: &str) -> Option<ConvertOpcode>
-    ensures { IfSome result (λ opcode. name.now ≡ convert_name opcode) }
+// The call `iconst`, whose name is followed by its type.
+fn read_iconst_call<'a>(
+    head: &'a str,
+    suffix: &'a str,
+    args: &mut Args<'_, 'a>,
+) -> Result<Call, LineError<'a>>
+    requires { head.now ≡ codes "iconst" ++ (codes "." ++ suffix.now) }
+    ensures { IfOk result (ReadsCall args.old args.new head.now) }
 {
-    match name {
-        "splat" => Some(ConvertOpcode::Splat),
-        "uextend" => Some(ConvertOpcode::Uextend),
-        "sextend" => Some(ConvertOpcode::Sextend),
-        "ireduce" => Some(ConvertOpcode::Ireduce),
-        _ => None,
-    }
+    let Some(ty) = type_named(suffix) else {
+        return Err(unknown_type(suffix, Expected::Type));
+    };
+    let imm = args.number()?;
+    Ok(Call::Plain(PlainInstruction::Iconst { ty, imm }))
 }
 
-/// The float constant of this name: one row per instruction.
-pub(crate) fn float_const_named(name: &str) -> Option<FloatConstOpcode>
-    ensures { IfSome result (λ opcode. name.now ≡ float_const_name opcode) }
-{
-    match name {
-        "f16const" => Some(FloatConstOpcode::F16const),
-        "f32const" => Some(FloatConstOpcode::F32const),
-        "f64const" => Some(FloatConstOpcode::F64const),
-        _ => None,
-    }
-}
-
-/// The operation of this name, at a place in a stack slot: one row per instruction.
-pub(crate) fn stack_named(name: &str) -> Option<StackOpcode>
-    ensures { IfSome result (λ opcode. name.now ≡ stack_name opcode) }
-{
-    match name {
-        "stack_addr" => Some(StackOpcode::StackAddr),
-        "stack_load" => Some(StackOpcode::StackLoad),
-        _ => None,
-    }
-}
-
-/// The trap of this name, under a condition: one row per instruction.
-pub(crate) fn cond_trap_named(name: &str) -> Option<CondTrapOpcode>
-    ensures { IfSome result (λ opcode. name.now ≡ cond_trap_name opcode) }
-{
-    match name {
-        "trapz" => Some(CondTrapOpcode::Trapz),
-        "trapnz" => Some(CondTrapOpcode::Trapnz),
-        _ => None,
-    }
-}
-
-/// The call with this name, an instruction of one value.
-pub(crate) fn read_unary_call<'a>(
+// The call with this name, an instruction of one value.
+fn read_unary_call<'a>(
     head: &'a str,
     opcode: UnaryOpcode,
     args: &mut Args<'_, 'a>,
@@ -106,8 +146,8 @@ pub(crate) fn read_unary_call<'a>(
     Ok(Call::Plain(PlainInstruction::unary(opcode, x)))
 }
 
-/// The same for an instruction of two values.
-pub(crate) fn read_binary_call<'a>(
+// The same for an instruction of two values.
+fn read_binary_call<'a>(
     head: &'a str,
     opcode: BinaryOpcode,
     args: &mut Args<'_, 'a>,
@@ -119,11 +159,8 @@ pub(crate) fn read_binary_call<'a>(
     Ok(Call::Plain(PlainInstruction::binary(opcode, x, y)))
 }
 
-/// The same for `iconcat`.
-pub(crate) fn read_iconcat_call<'a>(
-    head: &'a str,
-    args: &mut Args<'_, 'a>,
-) -> Result<Call, LineError<'a>>
+// The same for `iconcat`.
+fn read_iconcat_call<'a>(head: &'a str, args: &mut Args<'_, 'a>) -> Result<Call, LineError<'a>>
     requires { head.now ≡ codes "iconcat" }
     ensures { IfOk result (ReadsCall args.old args.new head.now) }
 {
@@ -131,11 +168,8 @@ pub(crate) fn read_iconcat_call<'a>(
     Ok(Call::Plain(PlainInstruction::Iconcat { x, y }))
 }
 
-/// The same for `isplit`.
-pub(crate) fn read_isplit_call<'a>(
-    head: &'a str,
-    args: &mut Args<'_, 'a>,
-) -> Result<Call, LineError<'a>>
+// The same for `isplit`.
+fn read_isplit_call<'a>(head: &'a str, args: &mut Args<'_, 'a>) -> Result<Call, LineError<'a>>
     requires { head.now ≡ codes "isplit" }
     ensures { IfOk result (ReadsCall args.old args.new head.now) }
 {
@@ -143,11 +177,8 @@ pub(crate) fn read_isplit_call<'a>(
     Ok(Call::Plain(PlainInstruction::Isplit { x }))
 }
 
-/// The same for `icmp`.
-pub(crate) fn read_icmp_call<'a>(
-    head: &'a str,
-    args: &mut Args<'_, 'a>,
-) -> Result<Call, LineError<'a>>
+// The same for `icmp`.
+fn read_icmp_call<'a>(head: &'a str, args: &mut Args<'_, 'a>) -> Result<Call, LineError<'a>>
     requires { head.now ≡ codes "icmp" }
     ensures { IfOk result (ReadsCall args.old args.new head.now) }
 {
@@ -156,11 +187,8 @@ pub(crate) fn read_icmp_call<'a>(
     Ok(Call::Plain(PlainInstruction::Icmp { cond, x, y }))
 }
 
-/// The same for `select`.
-pub(crate) fn read_select_call<'a>(
-    head: &'a str,
-    args: &mut Args<'_, 'a>,
-) -> Result<Call, LineError<'a>>
+// The same for `select`.
+fn read_select_call<'a>(head: &'a str, args: &mut Args<'_, 'a>) -> Result<Call, LineError<'a>>
     requires { head.now ≡ codes "select" }
     ensures { IfOk result (ReadsCall args.old args.new head.now) }
 {
@@ -169,8 +197,8 @@ pub(crate) fn read_select_call<'a>(
     Ok(Call::Plain(PlainInstruction::Select { c, x, y }))
 }
 
-/// The same for an instruction of one value, whose name is followed by its result type.
-pub(crate) fn read_convert_call<'a>(
+// The same for an instruction of one value, whose name is followed by its result type.
+fn read_convert_call<'a>(
     head: &'a str,
     opcode: ConvertOpcode,
     suffix: &'a str,
@@ -195,8 +223,8 @@ fn bits_of(opcode: FloatConstOpcode) -> Expected {
     }
 }
 
-/// The same for a float constant.
-pub(crate) fn read_float_const_call<'a>(
+// The same for a float constant.
+fn read_float_const_call<'a>(
     head: &'a str,
     opcode: FloatConstOpcode,
     args: &mut Args<'_, 'a>,
@@ -212,8 +240,8 @@ pub(crate) fn read_float_const_call<'a>(
     }
 }
 
-/// The same for `f128const`.
-pub(crate) fn read_f128const_call<'a>(
+// The same for `f128const`.
+fn read_f128const_call<'a>(
     alloc: Global,
     head: &'a str,
     args: &mut Args<'_, 'a>,
@@ -225,8 +253,8 @@ pub(crate) fn read_f128const_call<'a>(
     Ok(Call::F128const { bytes })
 }
 
-/// The same for `vconst`, whose name is followed by its result type.
-pub(crate) fn read_vconst_call<'a>(
+// The same for `vconst`, whose name is followed by its result type.
+fn read_vconst_call<'a>(
     alloc: Global,
     head: &'a str,
     suffix: &'a str,
@@ -242,8 +270,8 @@ pub(crate) fn read_vconst_call<'a>(
     Ok(Call::Vconst { ty, bytes })
 }
 
-/// The same for `load`, whose name is followed by the type of what is loaded.
-pub(crate) fn read_load_call<'a>(
+// The same for `load`, whose name is followed by the type of what is loaded.
+fn read_load_call<'a>(
     head: &'a str,
     suffix: &'a str,
     args: &mut Args<'_, 'a>,
@@ -265,11 +293,8 @@ pub(crate) fn read_load_call<'a>(
     }))
 }
 
-/// The same for `store`.
-pub(crate) fn read_store_call<'a>(
-    head: &'a str,
-    args: &mut Args<'_, 'a>,
-) -> Result<Call, LineError<'a>>
+// The same for `store`.
+fn read_store_call<'a>(head: &'a str, args: &mut Args<'_, 'a>) -> Result<Call, LineError<'a>>
     requires { head.now ≡ codes "store" }
     ensures { IfOk result (ReadsCall args.old args.new head.now) }
 {
@@ -284,8 +309,8 @@ pub(crate) fn read_store_call<'a>(
     }))
 }
 
-/// The same for an instruction at a place in a stack slot, whose name is followed by its result type.
-pub(crate) fn read_stack_call<'a>(
+// The same for an instruction at a place in a stack slot, whose name is followed by its result type.
+fn read_stack_call<'a>(
     head: &'a str,
     opcode: StackOpcode,
     suffix: &'a str,
@@ -302,11 +327,8 @@ pub(crate) fn read_stack_call<'a>(
     Ok(Call::Plain(PlainInstruction::stack(opcode, ty, slot, offset)))
 }
 
-/// The same for `stack_store`.
-pub(crate) fn read_stack_store_call<'a>(
-    head: &'a str,
-    args: &mut Args<'_, 'a>,
-) -> Result<Call, LineError<'a>>
+// The same for `stack_store`.
+fn read_stack_store_call<'a>(head: &'a str, args: &mut Args<'_, 'a>) -> Result<Call, LineError<'a>>
     requires { head.now ≡ codes "stack_store" }
     ensures { IfOk result (ReadsCall args.old args.new head.now) }
 {
@@ -316,8 +338,8 @@ pub(crate) fn read_stack_store_call<'a>(
     Ok(Call::Plain(PlainInstruction::StackStore { x, slot, offset }))
 }
 
-/// The same for a trap under a condition.
-pub(crate) fn read_cond_trap_call<'a>(
+// The same for a trap under a condition.
+fn read_cond_trap_call<'a>(
     head: &'a str,
     opcode: CondTrapOpcode,
     args: &mut Args<'_, 'a>,
