@@ -21,6 +21,7 @@ use Rattle.clif_resolution.specs.Answers.{value_of}
 use Rattle.clif_resolution.specs.Conditions.{is_open}
 use Rattle.clif_resolution.specs.Errors.{call_error_of}
 use Rattle.clif_resolution.specs.declared.answers.Answer.{Answer}
+use Rattle.clif_resolution.specs.declared.condition.Condition.{Condition}
 use Rattle.clif_resolution.specs.declared.answers.CallError.{CallError}
 use Rattle.clif_resolution.specs.declared.answers.CallError.TheVariants as error
 use Rattle.clif_replay.specs.Emits.{IsReadyBehind, MakesEmission, can_take_constant, constant_in, plain_calls_under}
@@ -103,23 +104,23 @@ module _ (called : ImmediateCall) (b : FunctionBuilder) (answers : List Answer) 
 -- WHAT IS KNOWN AFTERWARDS --------------------------------------------------------------------------------------------------
 
 -- it may not be made
-pub emission-misused : (called : ImmediateCall) (b : FunctionBuilder) (answers : List Answer) → EmissionJudged called b answers false → MakesEmission called b b answers (Err error.Misuse)
+pub emission-misused : {why : Condition} (called : ImmediateCall) (b : FunctionBuilder) (answers : List Answer) → EmissionJudged called b answers false → MakesEmission called b b answers (Err (error.Misuse why))
 emission-misused called b answers judges = record {
   loans = loans-stay b;
   name = tt;
   ready = λ naming declared calls ready. tt;
   judged = λ naming declared calls ready. (judges naming declared calls ready, refl);
   sound = tt;
-  refused = λ same. no-refusal same;
-  full = λ same. absurd (no-full same);
+  refused = λ other same. no-refusal _ other same;
+  full = λ same. absurd (no-full _ same);
   variables = tt;
 }
   where
-    no-refusal : ◌≡◌ {A = Result Answer CallError} (Err error.Misuse) (Err error.Refused) → ⊥
-    no-refusal same = cc
+    no-refusal : (why other : Condition) → ◌≡◌ {A = Result Answer CallError} (Err (error.Misuse why)) (Err (error.Refused other)) → ⊥
+    no-refusal why other same = cc
 
-    no-full : ◌≡◌ {A = Result Answer CallError} (Err error.Misuse) (Err error.Full) → ⊥
-    no-full same = cc
+    no-full : (why : Condition) → ◌≡◌ {A = Result Answer CallError} (Err (error.Misuse why)) (Err error.Full) → ⊥
+    no-full why same = cc
 
 -- the builder failed at one of its instructions
 pub emission-refused : (called : ImmediateCall) (old new : FunctionBuilder) (answers : List Answer) (e : BuildError) (y : CallError) (r : Result Answer CallError)
@@ -131,7 +132,7 @@ emission-refused called old new answers e y r is gives failing judges =
       ready = λ naming declared calls ready. tt;
       judged = λ naming declared calls ready. judged-from _ _ e (λ same. judges naming declared calls ready) not-failed;
       sound = tt;
-      refused = λ same. not-failed (told-refused e same);
+      refused = λ why same. not-failed (told-refused e why same);
       full = λ same. (failing.made, failing.few, met (failing.built.full (ap Err (told-full e same))));
       variables = tt;
     })
@@ -158,7 +159,7 @@ emission-answered called old new answers a made far judges ready = record {
   ready = ready;
   judged = judges;
   sound = far.sound;
-  refused = λ same. no-error error.Refused same;
+  refused = λ why. no-error (error.Refused why);
   full = λ same. absurd (no-error error.Full same);
   variables = far.variables;
 }

@@ -46,6 +46,7 @@ use Rattle.clif_resolution.specs.Conditions.{is_open}
 use Rattle.clif_resolution.specs.Errors.{call_error_of}
 use Rattle.clif_resolution.specs.declared.answers.Answer.{Answer}
 use Rattle.clif_resolution.specs.declared.answers.Answer.TheVariants as answer
+use Rattle.clif_resolution.specs.declared.condition.Condition.{Condition}
 use Rattle.clif_resolution.specs.declared.answers.CallError.{CallError}
 use Rattle.clif_resolution.specs.declared.answers.CallError.TheVariants as error
 use Rattle.clif_resolution.proofs.Options.{get-below}
@@ -289,13 +290,13 @@ module _ (config : TargetFrontendConfig) (called : MemoryCall) where
       ∙ judges naming declared calls ready
 
   -- it may not be made
-  pub helper-misused : (b : FunctionBuilder) (answers : List Answer) → HelperJudged config called b answers false → MakesMemory config called b b answers (Err error.Misuse)
-  helper-misused b answers judges = by (moves_nothing (operation_in called)) refl
+  pub helper-misused : (why : Condition) (b : FunctionBuilder) (answers : List Answer) → HelperJudged config called b answers false → MakesMemory config called b b answers (Err (error.Misuse why))
+  helper-misused why b answers judges = by (moves_nothing (operation_in called)) refl
     where
-      no-refusal : ◌≡◌ {A = Result Answer CallError} (Err error.Misuse) (Err error.Refused) → ⊥
-      no-refusal same = cc
+      no-refusal : (other : Condition) → ◌≡◌ {A = Result Answer CallError} (Err (error.Misuse why)) (Err (error.Refused other)) → ⊥
+      no-refusal other same = cc
 
-      by : (none : Bool) → moves_nothing (operation_in called) ≡ none → MakesMoved none config called b b answers (Err error.Misuse)
+      by : (none : Bool) → moves_nothing (operation_in called) ≡ none → MakesMoved none config called b b answers (Err (error.Misuse why))
       by true moves = made-misuse b answers (nothing-judged b answers false moves judges)
       by false moves = record {
         loans = loans-stay b;
@@ -303,7 +304,7 @@ module _ (config : TargetFrontendConfig) (called : MemoryCall) where
         ready = λ naming declared calls ready. tt;
         judged = λ naming declared calls ready. (some-judged b answers false moves judges naming declared calls ready, refl);
         sound = tt;
-        refused = λ same. no-refusal same;
+        refused = no-refusal;
         variables = tt;
       }
 
@@ -319,7 +320,7 @@ module _ (config : TargetFrontendConfig) (called : MemoryCall) where
           ready = λ naming declared calls ready. tt;
           judged = λ naming declared calls ready. judged-from _ _ e (λ same. nothing-judged old answers true moves judges naming declared calls ready) not-failed;
           sound = tt;
-          refused = λ same. absurd (not-failed (told-refused e same));
+          refused = λ why same. absurd (not-failed (told-refused e why same));
           full = λ same. tt;
           variables = tt;
         }
@@ -329,7 +330,7 @@ module _ (config : TargetFrontendConfig) (called : MemoryCall) where
           ready = λ naming declared calls ready. tt;
           judged = λ naming declared calls ready. judged-from _ _ e (λ same. some-judged old answers true moves judges naming declared calls ready) not-failed;
           sound = tt;
-          refused = λ same. not-failed (told-refused e same);
+          refused = λ why same. not-failed (told-refused e why same);
           variables = tt;
         }
 
@@ -668,7 +669,7 @@ helper-made lines notes config called old new answers values found can sized a h
           old new answers values found a (how_of (operation_in called)) refl made calls ready;
       judged = some-judged config called old answers true moves judges;
       sound = made.sound;
-      refused = λ same. no-error error.Refused same;
+      refused = λ why. no-error (error.Refused why);
       variables = made.variables;
     }
 

@@ -21,6 +21,7 @@ use Rattle.clif_builder.specs.Builder.{HasCurrent, SameLoans}
 use Rattle.clif_builder.specs.Ledger.{ledger_of}
 use Rattle.clif_resolution.specs.Errors.{call_error_of}
 use Rattle.clif_resolution.specs.declared.answers.Answer.{Answer}
+use Rattle.clif_resolution.specs.declared.condition.Condition.{Condition}
 use Rattle.clif_resolution.specs.declared.answers.CallError.{CallError}
 use Rattle.clif_resolution.specs.declared.answers.CallError.TheVariants as error
 use Rattle.clif_replay.specs.Limits.{ConstructsUntil, UseMeetsFullTable}
@@ -45,46 +46,46 @@ Denies asks tried b answers blamed =
     → (allows (ledger_of calls) (asks naming declared (ledger_of calls)) ≡ false) × ((tried && blames_variable (ledger_of calls) (asks naming declared (ledger_of calls))) ≡ blamed)
 
 -- it isn't allowed, and isn't refused either
-pub made-denied : {asks : Naming → SignatureShape → Ledger → Request} {tried : Bool} {Meets : Type 0} {types : List «Type»} (b : FunctionBuilder) (answers : List Answer) → Denies asks tried b answers false
-    → Makes asks tried Meets types b b answers (Err error.Misuse)
+pub made-denied : {asks : Naming → SignatureShape → Ledger → Request} {tried : Bool} {Meets : Type 0} {types : List «Type»} {why : Condition} (b : FunctionBuilder) (answers : List Answer) → Denies asks tried b answers false
+    → Makes asks tried Meets types b b answers (Err (error.Misuse why))
 made-denied b answers denies = record {
   loans = loans-stay b;
   name = tt;
   ready = λ naming declared calls ready. tt;
   judged = denies;
   sound = tt;
-  refused = λ same. absurd (no-refusal same);
-  full = λ same. absurd (no-full same);
+  refused = λ other same. absurd (no-refusal _ other same);
+  full = λ same. absurd (no-full _ same);
   variables = tt;
 }
   where
-    no-refusal : ◌≡◌ {A = Result Answer CallError} (Err error.Misuse) (Err error.Refused) → ⊥
-    no-refusal same = cc
+    no-refusal : (why other : Condition) → ◌≡◌ {A = Result Answer CallError} (Err (error.Misuse why)) (Err (error.Refused other)) → ⊥
+    no-refusal why other same = cc
 
-    no-full : ◌≡◌ {A = Result Answer CallError} (Err error.Misuse) (Err error.Full) → ⊥
-    no-full same = cc
+    no-full : (why : Condition) → ◌≡◌ {A = Result Answer CallError} (Err (error.Misuse why)) (Err error.Full) → ⊥
+    no-full why same = cc
 
 -- it isn't allowed, and isn't only tried
-pub made-misuse : {asks : Naming → SignatureShape → Ledger → Request} {Meets : Type 0} {types : List «Type»} (b : FunctionBuilder) (answers : List Answer) → Judges asks b answers false
-    → Makes asks false Meets types b b answers (Err error.Misuse)
+pub made-misuse : {asks : Naming → SignatureShape → Ledger → Request} {Meets : Type 0} {types : List «Type»} {why : Condition} (b : FunctionBuilder) (answers : List Answer) → Judges asks b answers false
+    → Makes asks false Meets types b b answers (Err (error.Misuse why))
 made-misuse b answers judges = made-denied b answers (λ naming declared calls ready. (judges naming declared calls ready, refl))
 
 -- it was tried, and the builder refused it because of its variable
-pub made-refusal : {asks : Naming → SignatureShape → Ledger → Request} {Meets : Type 0} {types : List «Type»} (old new : FunctionBuilder) (answers : List Answer) → SameLoans old new → Denies asks true old answers true
-    → Makes asks true Meets types old new answers (Err error.Refused)
+pub made-refusal : {asks : Naming → SignatureShape → Ledger → Request} {Meets : Type 0} {types : List «Type»} {why : Condition} (old new : FunctionBuilder) (answers : List Answer) → SameLoans old new → Denies asks true old answers true
+    → Makes asks true Meets types old new answers (Err (error.Refused why))
 made-refusal old new answers loans denies = record {
   loans = loans;
   name = tt;
   ready = λ naming declared calls ready. tt;
   judged = denies;
   sound = tt;
-  refused = λ same. refl;
-  full = λ same. absurd (no-full same);
+  refused = λ other same. refl;
+  full = λ same. absurd (no-full _ same);
   variables = tt;
 }
   where
-    no-full : ◌≡◌ {A = Result Answer CallError} (Err error.Refused) (Err error.Full) → ⊥
-    no-full same = cc
+    no-full : (why : Condition) → ◌≡◌ {A = Result Answer CallError} (Err (error.Refused why)) (Err error.Full) → ⊥
+    no-full why same = cc
 
 -- a builder that answered hasn't failed
 pub answered-sound : {T : Type 0} (failed : Bool) (told : Result T BuildError) (x : T) → failed ≡ is_err told → told ≡ Ok x → failed ≡ false
@@ -101,7 +102,7 @@ made-answer old new answers a loans name sound variables judges ready = record {
   ready = ready;
   judged = judges;
   sound = sound;
-  refused = λ same. absurd (no-error error.Refused same);
+  refused = λ why same. absurd (no-error (error.Refused why) same);
   full = λ same. absurd (no-error error.Full same);
   variables = variables;
 }
@@ -115,10 +116,10 @@ told-full build.Memory same = let no_way : ⊥ = cc in absurd no_way
 told-full build.Full same = refl
 told-full build.Failed same = let no_way : ⊥ = cc in absurd no_way
 
-pub told-refused : (e : BuildError) → ◌≡◌ {A = Result Answer CallError} (Err (call_error_of e)) (Err error.Refused) → e ≡ build.Failed
-told-refused build.Memory same = let no_way : ⊥ = cc in absurd no_way
-told-refused build.Full same = let no_way : ⊥ = cc in absurd no_way
-told-refused build.Failed same = refl
+pub told-refused : (e : BuildError) (why : Condition) → ◌≡◌ {A = Result Answer CallError} (Err (call_error_of e)) (Err (error.Refused why)) → e ≡ build.Failed
+told-refused build.Memory why same = let no_way : ⊥ = cc in absurd no_way
+told-refused build.Full why same = let no_way : ⊥ = cc in absurd no_way
+told-refused build.Failed why same = refl
 
 pub judged-from : (allowed refused : Bool) (e : BuildError) → (e ≡ build.Full → allowed ≡ true) → e ≢ build.Failed → IsJudged allowed refused (Err (call_error_of e))
 judged-from allowed refused build.Memory is sound = tt
@@ -137,7 +138,7 @@ made-failed {asks = asks} {tried = tried} {Meets = Meets} {types = types} old ne
       ready = λ naming declared calls ready. tt;
       judged = λ naming declared calls ready. judged-from _ _ e (λ same. judges (was ∙ ap Err same) naming declared calls ready) (λ same. not-failed (was ∙ ap Err same));
       sound = tt;
-      refused = λ same. absurd (not-failed (was ∙ ap Err (told-refused e same)));
+      refused = λ why same. absurd (not-failed (was ∙ ap Err (told-refused e why same)));
       full = λ same. full (was ∙ ap Err (told-full e same));
       variables = tt;
     })
@@ -162,7 +163,7 @@ made-memory b answers = record {
   ready = λ naming declared calls ready. tt;
   judged = λ naming declared calls ready. tt;
   sound = tt;
-  refused = λ same. absurd (no-refusal same);
+  refused = λ why same. absurd (no-refusal why same);
   full = λ same. absurd (no-full same);
   variables = tt;
 }
@@ -170,8 +171,8 @@ made-memory b answers = record {
     no-full : ◌≡◌ {A = Result Answer CallError} (Err error.Memory) (Err error.Full) → ⊥
     no-full same = cc
 
-    no-refusal : ◌≡◌ {A = Result Answer CallError} (Err error.Memory) (Err error.Refused) → ⊥
-    no-refusal same = cc
+    no-refusal : (why : Condition) → ◌≡◌ {A = Result Answer CallError} (Err error.Memory) (Err (error.Refused why)) → ⊥
+    no-refusal why same = cc
 
 pub memory-told : {asks : Naming → SignatureShape → Ledger → Request} {tried : Bool} {Meets : Type 0} {types : List «Type»} (b : FunctionBuilder) (answers : List Answer)
     (e : CallError) (r : Result Answer CallError) → r ≡ Err e → e ≡ error.Memory → Makes asks tried Meets types b b answers r
@@ -180,21 +181,21 @@ memory-told {asks = asks} {tried = tried} {Meets = Meets} {types = types} b answ
 
 -- what it names isn't there, or memory was refused
 pub made-missed : {X : Type 0} {asks : Naming → SignatureShape → Ledger → Request} {Meets : Type 0} {types : List «Type»} (b : FunctionBuilder) (answers : List Answer)
-    (v : Result X CallError) (r : Result Answer CallError) (e : CallError) → v ≡ Err e → r ≡ Err e → (v ≡ Err error.Misuse → Judges asks b answers false) → v ≢ Err error.Refused
+    (v : Result X CallError) (r : Result Answer CallError) (e : CallError) → v ≡ Err e → r ≡ Err e → ((why : Condition) → v ≡ Err (error.Misuse why) → Judges asks b answers false) → ((why : Condition) → v ≢ Err (error.Refused why))
     → v ≢ Err error.Full → Makes asks false Meets types b b answers r
 made-missed {asks = asks} {Meets = Meets} {types = types} b answers v r e was is judges never_refused never_full =
     subst (λ (x : Result Answer CallError). Makes asks false Meets types b b answers x) (sym is) (by e was)
   where
     by : (e : CallError) → v ≡ Err e → Makes asks false Meets types b b answers (Err e)
-    by error.Misuse was = made-misuse b answers (judges was)
-    by error.Refused was = absurd (never_refused was)
+    by (error.Misuse why) was = made-misuse b answers (judges why was)
+    by (error.Refused why) was = absurd (never_refused why was)
     by error.Full was = absurd (never_full was)
     by error.Memory was = made-memory b answers
 
 pub made-misused : {X : Type 0} {Found : X → Type 0} {there : Bool} {asks : Naming → SignatureShape → Ledger → Request} {Meets : Type 0} {types : List «Type»} (b : FunctionBuilder) (answers : List Answer)
     (v : Result X CallError) (r : Result Answer CallError) (e : CallError) → v ≡ Err e → r ≡ Err e → Finds Found there v → (there ≡ false → Judges asks b answers false)
     → Makes asks false Meets types b b answers r
-made-misused b answers v r e was is finds judges = made-missed b answers v r e was is (λ misuse. judges (finds.misuse misuse)) finds.never_refused finds.never_full
+made-misused b answers v r e was is finds judges = made-missed b answers v r e was is (λ why misuse. judges (finds.misuse why misuse)) finds.never_refused finds.never_full
 
 -- one of the tables is full
 pub full-either : (f : Body) → (length f.insts ≡ 2 ^ 32 - 1) ⊎ (length f.values ≡ 2 ^ 32 - 1) → IsFull f
@@ -225,14 +226,14 @@ made-between old between new answers r loans name goes_on meets made = record {
 
 -- what a part of it told
 pub found-none : {X Y : Type 0} {Found : Y → Type 0} (there other : Bool) (v : Result X CallError) (r : Result Y CallError) (e : CallError) → v ≡ Err e → r ≡ Err e
-    → (v ≡ Err error.Misuse → there ≡ false) → v ≢ Err error.Refused → v ≢ Err error.Full → (there ≡ false → other ≡ false)
+    → ((why : Condition) → v ≡ Err (error.Misuse why) → there ≡ false) → ((why : Condition) → v ≢ Err (error.Refused why)) → v ≢ Err error.Full → (there ≡ false → other ≡ false)
     → Finds Found other r
 found-none {X = X} {Y = Y} {Found = Found} there other v r e was is misuse never_refused never_full less =
     subst (λ (x : Result Y CallError). Finds Found other x) (sym is) (record {
       found = tt;
       may = tt;
-      misuse = λ same. less (misuse (was ∙ ap Err (error-is e error.Misuse same)));
-      never_refused = λ same. never_refused (was ∙ ap Err (error-is e error.Refused same));
+      misuse = λ why same. less (misuse why (was ∙ ap Err (error-is e (error.Misuse why) same)));
+      never_refused = λ why same. never_refused why (was ∙ ap Err (error-is e (error.Refused why) same));
       never_full = λ same. never_full (was ∙ ap Err (error-is e error.Full same));
     })
   where

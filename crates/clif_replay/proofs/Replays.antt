@@ -273,8 +273,8 @@ made-all config calls old new made loans name stands replayed sound = record {
 
 -- the error of a call is told at its place
 pub misuse-place : (refusal : CallError) (place i : ℕ) (told : ReplayError) → told ≡ replay_error_at refusal place → ◌≡◌ {A = Result (Unit {0}) ReplayError} (Err told) (Err (replay.Misuse i)) → i ≡ place
-misuse-place error.Misuse place i told at is = cc
-misuse-place error.Refused place i told at is = let no_way : ⊥ = cc in absurd no_way
+misuse-place (error.Misuse why) place i told at is = cc
+misuse-place (error.Refused why) place i told at is = let no_way : ⊥ = cc in absurd no_way
 misuse-place error.Memory place i told at is = let no_way : ⊥ = cc in absurd no_way
 misuse-place error.Full place i told at is = let no_way : ⊥ = cc in absurd no_way
 

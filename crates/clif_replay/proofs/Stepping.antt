@@ -34,6 +34,7 @@ use Rattle.clif_memory_helpers.specs.Helpers.{helper_calls}
 use Rattle.clif_calls.specs.declared.outside.OutsideCall.TheVariants as outside
 use Rattle.clif_calls.specs.declared.table.ThrowingCall.TheVariants as throwing
 use Rattle.clif_resolution.specs.declared.answers.Answer.{Answer}
+use Rattle.clif_resolution.specs.declared.condition.Condition.{Condition}
 use Rattle.clif_resolution.specs.declared.answers.CallError.{CallError}
 use Rattle.clif_resolution.specs.declared.answers.CallError.TheVariants as error
 use Rattle.clif_replay.specs.Cases.{switch_under}
@@ -73,7 +74,7 @@ pub record IsStep (config : TargetFrontendConfig) (c : Call) (old new : Function
   pub loans : SameLoans old new
   pub name : OnOk result (new.func.now.name ≡ old.func.now.name)
   pub sound : OnOk result (new.failed ≡ false)
-  pub refused : result ≡ Err error.Refused → is_refusable c ≡ true
+  pub refused : (why : Condition) → result ≡ Err (error.Refused why) → is_refusable c ≡ true
   pub full : result ≡ Err error.Full → MeetsFullTable (numbers_at old.func.now answers) c old.func.now old.ctx.now
   pub variables : OnOk result (new.ctx.now.variables ≡ types_after c old.ctx.now.variables)
 
@@ -92,8 +93,8 @@ one-on answers answer =
 -- a call that is refused only where it isn't allowed
 never-judged : (allowed blamed refused : Bool) (result : Result Answer CallError) → refused ≡ false → IsJudged allowed blamed result → IsCallJudged allowed blamed refused result
 never-judged allowed blamed refused (Ok answer) never judged = (judged, never)
-never-judged allowed blamed refused (Err error.Misuse) never judged = judged
-never-judged allowed blamed refused (Err error.Refused) never judged = inl judged
+never-judged allowed blamed refused (Err (error.Misuse why)) never judged = judged
+never-judged allowed blamed refused (Err (error.Refused why)) never judged = inl judged
 never-judged allowed blamed refused (Err error.Memory) never judged = tt
 never-judged allowed blamed refused (Err error.Full) never judged = judged
 
@@ -209,7 +210,7 @@ module _ (config : TargetFrontendConfig) (c : Call) (asks : Asks config c) (old 
     loans = makes.loans;
     name = makes.name;
     sound = makes.sound;
-    refused = λ is. tried-refusable c (makes.refused is);
+    refused = λ why is. tried-refusable c (makes.refused why is);
     full = makes.full;
     variables = makes.variables;
   }
@@ -259,7 +260,7 @@ module _ (config : TargetFrontendConfig) (called : ImmediateCall) (old new : Fun
     loans = makes.loans;
     name = makes.name;
     sound = makes.sound;
-    refused = λ is. absurd (makes.refused is);
+    refused = λ why is. absurd (makes.refused why is);
     full = makes.full;
     variables = makes.variables;
   }
@@ -322,7 +323,7 @@ module _ (config : TargetFrontendConfig) (entries : Vec SwitchEntry) (value othe
     loans = makes.loans;
     name = makes.name;
     sound = makes.sound;
-    refused = λ is. refl;
+    refused = λ why is. refl;
     full = λ is. tt;
     variables = makes.variables;
   }
@@ -383,7 +384,7 @@ module _ (config : TargetFrontendConfig) (called : MemoryCall) (moves : moves_no
     loans = makes.loans;
     name = makes.name;
     sound = makes.sound;
-    refused = λ is. absurd (makes.refused is);
+    refused = λ why is. absurd (makes.refused why is);
     full = λ is. tt;
     variables = makes.variables;
   }

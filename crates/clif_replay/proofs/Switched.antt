@@ -45,6 +45,7 @@ use Rattle.clif_resolution.specs.Conditions.{can_seal, is_open, is_target}
 use Rattle.clif_resolution.specs.Errors.{call_error_of}
 use Rattle.clif_resolution.specs.declared.answers.Answer.{Answer}
 use Rattle.clif_resolution.specs.declared.answers.Answer.TheVariants as answer
+use Rattle.clif_resolution.specs.declared.condition.Condition.{Condition}
 use Rattle.clif_resolution.specs.declared.answers.CallError.{CallError}
 use Rattle.clif_resolution.specs.declared.answers.CallError.TheVariants as error
 use Rattle.clif_resolution.proofs.Options.{get-below}
@@ -329,8 +330,8 @@ no-failure x y apart same = apart (told x y same)
     told a c h = cc
 
 -- it may not be made
-pub switch-misused : (entries : List SwitchEntry) (value otherwise : Name) (b : FunctionBuilder) (answers : List Answer) → SwitchJudged entries value otherwise b answers false
-    → MakesSwitch entries value otherwise b b answers (Err error.Misuse)
+pub switch-misused : {why : Condition} (entries : List SwitchEntry) (value otherwise : Name) (b : FunctionBuilder) (answers : List Answer) → SwitchJudged entries value otherwise b answers false
+    → MakesSwitch entries value otherwise b b answers (Err (error.Misuse why))
 switch-misused entries value otherwise b answers judges = record {
   loans = loans-stay b;
   name = tt;
@@ -342,7 +343,7 @@ switch-misused entries value otherwise b answers judges = record {
 
 -- its entries can't be set: memory is refused, or a key comes twice
 pub switch-unset : (entries : List SwitchEntry) (value otherwise : Name) (b : FunctionBuilder) (answers : List Answer) (e : CallError)
-    → SwitchJudged entries value otherwise b answers true → ((e ≡ error.Refused) × (are_twice entries ≡ true)) ⊎ (e ≡ error.Memory)
+    → SwitchJudged entries value otherwise b answers true → ((why : Condition) × (e ≡ error.Refused why) × (are_twice entries ≡ true)) ⊎ (e ≡ error.Memory)
     → MakesSwitch entries value otherwise b b answers (Err e)
 switch-unset entries value otherwise b answers e judges (inr memory) = subst (λ (x : CallError). MakesSwitch entries value otherwise b b answers (Err x)) (sym memory) (record {
   loans = loans-stay b;
@@ -352,7 +353,7 @@ switch-unset entries value otherwise b answers e judges (inr memory) = subst (λ
   sound = tt;
   variables = tt;
 })
-switch-unset entries value otherwise b answers e judges (inl (refused, twice)) = subst (λ (x : CallError). MakesSwitch entries value otherwise b b answers (Err x)) (sym refused) (record {
+switch-unset entries value otherwise b answers e judges (inl (why, refused, twice)) = subst (λ (x : CallError). MakesSwitch entries value otherwise b b answers (Err x)) (sym refused) (record {
   loans = loans-stay b;
   name = tt;
   ready = λ naming declared calls ready. tt;
@@ -385,8 +386,8 @@ module _ (law : RefusalsAreOfKeys) (entries : List SwitchEntry) (value otherwise
       let failed : old.failed ≡ true = emits.failed.0 refl in
       absurd (false≢true (sym sound ∙ failed))
 
-  refused-by : (e : SwitchError) → IsRefusal (cases_at answers entries) (value_at old.func.now val).ty e → is_some (refusal_in e) ≡ true → Emits (cases_at answers entries) val other old new (Err e)
-      → MakesSwitch entries value otherwise old new answers (Err error.Refused)
+  refused-by : {why : Condition} (e : SwitchError) → IsRefusal (cases_at answers entries) (value_at old.func.now val).ty e → is_some (refusal_in e) ≡ true → Emits (cases_at answers entries) val other old new (Err e)
+      → MakesSwitch entries value otherwise old new answers (Err (error.Refused why))
   refused-by e is told emits = record {
     loans = emits.loans;
     name = tt;

@@ -21,6 +21,7 @@ use Rattle.clif_calls.specs.declared.call.Call.{Call}
 use Rattle.clif_calls.specs.declared.call.Call.TheVariants as call
 use Rattle.clif_calls.specs.declared.memory.MemoryCall.{MemoryCall}
 use Rattle.clif_replay.specs.Helpers.{helper_under, moves_nothing, nothing_moved, operation_in}
+use Rattle.clif_resolution.specs.declared.condition.Condition.{Condition}
 use Rattle.clif_resolution.specs.declared.answers.CallError.{CallError}
 use Rattle.clif_resolution.specs.declared.answers.CallError.TheVariants as error
 use Rattle.clif_replay.specs.declared.script.ReplayError.{ReplayError}
@@ -132,12 +133,12 @@ refused-here config declared calls place c inside is rest allowed refused =
     ∙ verdicts_are_read.refuses place ledger (attempt_of config declared ledger c) (behind config declared calls place (ledger_with_call ledger this)) allowed refused
 
 -- the error of a call tells where it was made: a misuse and a refusal are told as themselves
-misuse-at : (refusal : CallError) (place i : ℕ) (told : ReplayError) → told ≡ replay_error_at refusal place → told ≡ replay.Misuse i → (refusal ≡ error.Misuse) × (place ≡ i)
-misuse-at error.Misuse place i told at misuse = (refl, same place i (sym at ∙ misuse))
+misuse-at : (refusal : CallError) (place i : ℕ) (told : ReplayError) → told ≡ replay_error_at refusal place → told ≡ replay.Misuse i → (why : Condition) × (refusal ≡ error.Misuse why) × (place ≡ i)
+misuse-at (error.Misuse why) place i told at misuse = (why, refl, same place i (sym at ∙ misuse))
   where
     same : (j k : ℕ) → replay.Misuse j ≡ replay.Misuse k → j ≡ k
     same j k h = cc
-misuse-at error.Refused place i told at misuse = absurd (other place i (sym at ∙ misuse))
+misuse-at (error.Refused why) place i told at misuse = absurd (other place i (sym at ∙ misuse))
   where
     other : (j k : ℕ) → replay.Refused j ≡ replay.Misuse k → ⊥
     other j k h = cc
@@ -150,12 +151,12 @@ misuse-at error.Full place i told at misuse = absurd (other i (sym at ∙ misuse
     other : (k : ℕ) → replay.Full ≡ replay.Misuse k → ⊥
     other k h = cc
 
-pub refusal-at : (refusal : CallError) (place i : ℕ) (told : ReplayError) → told ≡ replay_error_at refusal place → told ≡ replay.Refused i → (refusal ≡ error.Refused) × (place ≡ i)
-refusal-at error.Misuse place i told at refused = absurd (other place i (sym at ∙ refused))
+pub refusal-at : (refusal : CallError) (place i : ℕ) (told : ReplayError) → told ≡ replay_error_at refusal place → told ≡ replay.Refused i → (why : Condition) × (refusal ≡ error.Refused why) × (place ≡ i)
+refusal-at (error.Misuse why) place i told at refused = absurd (other place i (sym at ∙ refused))
   where
     other : (j k : ℕ) → replay.Misuse j ≡ replay.Refused k → ⊥
     other j k h = cc
-refusal-at error.Refused place i told at refused = (refl, same place i (sym at ∙ refused))
+refusal-at (error.Refused why) place i told at refused = (why, refl, same place i (sym at ∙ refused))
   where
     same : (j k : ℕ) → replay.Refused j ≡ replay.Refused k → j ≡ k
     same j k h = cc
@@ -180,17 +181,17 @@ pub misuse-told : (config : TargetFrontendConfig) (declared : SignatureShape) (c
     → IsJudgedAt config declared calls place c refusal → told ≡ replay_error_at refusal place → told ≡ replay.Misuse i → verdict_on_call_attempts (attempts_of config declared calls) ≡ Misuse i
 misuse-told config declared calls place i c refusal told inside is rest judged at misuse =
     let place_is = misuse-at refusal place i told at misuse in
-    let denied = subst (λ (e : CallError). IsJudgedAt config declared calls place c e) place_is.0 judged in
-    denied-here config declared calls place c false inside is rest denied.0 denied.1 ∙ ap Misuse place_is.1
+    let denied = subst (λ (e : CallError). IsJudgedAt config declared calls place c e) place_is.1 judged in
+    denied-here config declared calls place c false inside is rest denied.0 denied.1 ∙ ap Misuse place_is.2
 
 -- and a refusal where its variable is to blame, or where it is refused though it is allowed
 pub refusal-told : (config : TargetFrontendConfig) (declared : SignatureShape) (calls : List Call) (place i : ℕ) (c : Call) (refusal : CallError) (told : ReplayError) → place < length calls → c ≡ get_or calls place c → HasRest config declared calls place
     → IsJudgedAt config declared calls place c refusal → told ≡ replay_error_at refusal place → told ≡ replay.Refused i → verdict_on_call_attempts (attempts_of config declared calls) ≡ Refused i
 refusal-told config declared calls place i c refusal told inside is rest judged at refused =
     let place_is = refusal-at refusal place i told at refused in
-    elim (subst (λ (e : CallError). IsJudgedAt config declared calls place c e) place_is.0 judged) [
-      | inl denied ↦ denied-here config declared calls place c true inside is rest denied.0 denied.1 ∙ ap Refused place_is.1
-      | inr refusal ↦ refused-here config declared calls place c inside is rest refusal.0 refusal.1 ∙ ap Refused place_is.1
+    elim (subst (λ (e : CallError). IsJudgedAt config declared calls place c e) place_is.1 judged) [
+      | inl denied ↦ denied-here config declared calls place c true inside is rest denied.0 denied.1 ∙ ap Refused place_is.2
+      | inr refusal ↦ refused-here config declared calls place c inside is rest refusal.0 refusal.1 ∙ ap Refused place_is.2
     ]
 
 -- memory helpers are of the target's pointers
@@ -281,11 +282,11 @@ full-spilling made f recorded r ends is = by (refusal_of (plain_ledger_of made) 
 
 -- only the error of a full table tells one
 pub full-told : (refusal : CallError) (place : ℕ) (told : ReplayError) → told ≡ replay_error_at refusal place → told ≡ replay.Full → refusal ≡ error.Full
-full-told error.Misuse place told at full = absurd (other place (sym at ∙ full))
+full-told (error.Misuse why) place told at full = absurd (other place (sym at ∙ full))
   where
     other : (j : ℕ) → replay.Misuse j ≡ replay.Full → ⊥
     other j h = cc
-full-told error.Refused place told at full = absurd (other place (sym at ∙ full))
+full-told (error.Refused why) place told at full = absurd (other place (sym at ∙ full))
   where
     other : (j : ℕ) → replay.Refused j ≡ replay.Full → ⊥
     other j h = cc

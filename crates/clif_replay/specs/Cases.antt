@@ -22,6 +22,7 @@ use Rattle.clif_resolution.specs.Answers.{block_of}
 use Rattle.clif_resolution.specs.Conditions.{is_open, is_target}
 use Rattle.clif_resolution.specs.Errors.{call_error_of}
 use Rattle.clif_resolution.specs.declared.answers.Answer.{Answer}
+use Rattle.clif_resolution.specs.declared.condition.Condition.TheVariants as condition
 use Rattle.clif_resolution.specs.declared.answers.CallError.{CallError}
 use Rattle.clif_resolution.specs.declared.answers.CallError.TheVariants as error
 
@@ -74,4 +75,6 @@ can_switch_on b answers entries value otherwise =
 -- how a refusal of the switch is told
 abbrev pub switch_told : SwitchError → CallError
 switch_told (switch_error.Build error) = call_error_of error
-switch_told _ = error.Refused
+switch_told (switch_error.SetTwice key) = error.Refused (condition.KeyTwice key)
+switch_told (switch_error.KeyTooWide ty max) = error.Refused (condition.KeyTooWide ty max)
+switch_told switch_error.TableTooLong = error.Refused condition.TableTooLong

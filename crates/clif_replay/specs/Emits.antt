@@ -40,6 +40,7 @@ use Rattle.clif_resolution.specs.Answers.{value_of}
 use Rattle.clif_resolution.specs.Conditions.{is_open}
 use Rattle.clif_resolution.specs.declared.answers.Answer.{Answer}
 use Rattle.clif_resolution.specs.declared.answers.Answer.TheVariants as answer
+use Rattle.clif_resolution.specs.declared.condition.Condition.{Condition}
 use Rattle.clif_resolution.specs.declared.answers.CallError.{CallError}
 use Rattle.clif_resolution.specs.declared.answers.CallError.TheVariants as error
 use Rattle.clif_replay.specs.Cases.{switch_under}
@@ -101,7 +102,7 @@ pub record MakesEmission (called : ImmediateCall) (old new : FunctionBuilder) (a
   pub judged : (naming : Naming) (declared : SignatureShape) (calls : List AnsweredCall) → IsReady naming declared calls old answers
       → IsJudged (call_allowed (ledger_of calls) (Emit [] (emission_under naming (ledger_of calls) called))) false result
   pub sound : OnOk result (new.failed ≡ false)
-  pub refused : result ≢ Err error.Refused
+  pub refused : (why : Condition) → result ≢ Err (error.Refused why)
   pub full : result ≡ Err error.Full → EmissionMeetsFullTable old.func.now
   pub variables : OnOk result (new.ctx.now.variables ≡ old.ctx.now.variables)
 
@@ -177,7 +178,7 @@ pub record MakesHelper (config : TargetFrontendConfig) (called : MemoryCall) (ol
   pub judged : (naming : Naming) (declared : SignatureShape) (calls : List AnsweredCall) → IsReady naming declared calls old answers
       → IsJudged (call_allowed (ledger_of calls) (helper_under config naming (ledger_of calls) called)) false result
   pub sound : OnOk result (new.failed ≡ false)
-  pub refused : result ≢ Err error.Refused
+  pub refused : (why : Condition) → result ≢ Err (error.Refused why)
   pub variables : OnOk result (new.ctx.now.variables ≡ old.ctx.now.variables)
 
 -- A copy or a fill of no bytes asks only for its condition.

@@ -13,8 +13,8 @@ replay_memory = replay.Memory
 
 -- the same refusal, where the call at this place answered it
 abbrev pub replay_error_at : CallError → ℕ → ReplayError
-replay_error_at call.Misuse place = replay.Misuse place
-replay_error_at call.Refused place = replay.Refused place
+replay_error_at (call.Misuse why) place = replay.Misuse place
+replay_error_at (call.Refused why) place = replay.Refused place
 replay_error_at call.Memory place = replay.Memory
 replay_error_at call.Full place = replay.Full
 

@@ -20,6 +20,7 @@ use Rattle.clif_resolution.specs.declared.answers.Entry.{Entry}
 use Rattle.clif_types.specs.declared.error.BuildError.{BuildError}
 use Rattle.clif_tables.specs.Entries.{TableEntry}
 use Rattle.clif_builder.specs.Entries.{MakesEntry}
+use Rattle.clif_resolution.specs.declared.condition.Condition.{Condition}
 use Rattle.clif_resolution.specs.declared.answers.CallError.{CallError}
 use Rattle.clif_resolution.specs.declared.answers.CallError.TheVariants as error
 use Rattle.clif_replay.specs.Limits.{ConstantMeetsFullTable, MeetsFullTable, PlanMeetsFullTable}
@@ -39,7 +40,7 @@ pub record Makes (asks : Naming → SignatureShape → Ledger → Request) (trie
   pub judged : (naming : Naming) (declared : SignatureShape) (calls : List AnsweredCall) → IsReady naming declared calls old answers
       → IsJudged (allows (ledger_of calls) (asks naming declared (ledger_of calls))) (tried && blames_variable (ledger_of calls) (asks naming declared (ledger_of calls))) result
   pub sound : OnOk result (new.failed ≡ false)
-  pub refused : result ≡ Err error.Refused → tried ≡ true
+  pub refused : (why : Condition) → result ≡ Err (error.Refused why) → tried ≡ true
   pub full : result ≡ Err error.Full → Meets
   pub variables : OnOk result (new.ctx.now.variables ≡ types)
 

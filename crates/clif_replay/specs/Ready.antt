@@ -119,16 +119,16 @@ IsReadyAfter naming declared calls request b answers answer =
 -- A call succeeds only where it is allowed, and where it isn't, it is either refused or a misuse.
 abbrev pub IsJudged : Bool → Bool → Result Answer CallError → Type 0
 IsJudged allowed refused (Ok answer) = allowed ≡ true
-IsJudged allowed refused (Err error.Misuse) = (allowed ≡ false) × (refused ≡ false)
-IsJudged allowed refused (Err error.Refused) = (allowed ≡ false) × (refused ≡ true)
+IsJudged allowed refused (Err (error.Misuse why)) = (allowed ≡ false) × (refused ≡ false)
+IsJudged allowed refused (Err (error.Refused why)) = (allowed ≡ false) × (refused ≡ true)
 IsJudged allowed refused (Err error.Memory) = Unit {0}
 IsJudged allowed refused (Err error.Full) = allowed ≡ true
 
 -- The same of a call that may be refused though it may be made: it succeeds only where it isn't.
 abbrev pub IsCallJudged : (allowed blamed refused : Bool) → Result Answer CallError → Type 0
 IsCallJudged allowed blamed refused (Ok answer) = (allowed ≡ true) × (refused ≡ false)
-IsCallJudged allowed blamed refused (Err error.Misuse) = (allowed ≡ false) × (blamed ≡ false)
-IsCallJudged allowed blamed refused (Err error.Refused) = ((allowed ≡ false) × (blamed ≡ true)) ⊎ ((allowed ≡ true) × (refused ≡ true))
+IsCallJudged allowed blamed refused (Err (error.Misuse why)) = (allowed ≡ false) × (blamed ≡ false)
+IsCallJudged allowed blamed refused (Err (error.Refused why)) = ((allowed ≡ false) × (blamed ≡ true)) ⊎ ((allowed ≡ true) × (refused ≡ true))
 IsCallJudged allowed blamed refused (Err error.Memory) = Unit {0}
 IsCallJudged allowed blamed refused (Err error.Full) = allowed ≡ true
 

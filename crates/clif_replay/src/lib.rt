@@ -19,4 +19,4 @@ mod make_switch;
 mod make_tables;
 mod script;
 
-pub use script::{ReplayError, replay};
+pub use script::{ReplayError, ReplayNotes, replay, replay_noted};

@@ -24,11 +24,11 @@ use crate::make_parameters::{
 };
 use crate::make_switch::make_switch;
 use crate::make_tables::{block_call, br_table, create_jump_table};
-use clif_builder::FunctionBuilder;
+use clif_builder::{DefVariableError, FunctionBuilder};
 use clif_calls::{Call, Name, Plan};
 use clif_opcodes::PooledConstOpcode;
 use clif_records::Variable;
-use clif_resolution::{Answer, CallError, has_current, value_named};
+use clif_resolution::{Answer, CallError, Condition, current_fault, has_current, value_named};
 use clif_types::{EntityRef, TargetFrontendConfig, Type, Value};
 
 // Makes one call, where its conditions hold.
@@ -150,7 +150,7 @@ fn declare_var(
     ensures { MakesCall (Call.DeclareVar ty) builder.old builder.new answers.now result }
 {
     if !ty.is_valid() {
-        return Err(CallError::Misuse);
+        return Err(CallError::Misuse(Condition::VariableType(ty)));
     }
     let variable = builder.declare_var(ty)?;
     Ok(Answer::Variable(variable))
@@ -170,6 +170,26 @@ fn may_define(builder: &FunctionBuilder<'_>, ty: Type, value: Value) -> bool
     ensures { result ≡ can_define builder.now ty value }
 {
     has_current(builder) && is_same_type(ty, builder.func().value_type(value))
+}
+
+// Why a value may not be assigned to a variable of a type: there is no current block, or it has another type.
+fn define_fault(builder: &FunctionBuilder<'_>, ty: Type, value: Value) -> Condition
+    requires { value < length builder.now.func.now.values }
+{
+    if has_current(builder) {
+        Condition::AssignedType(ty, builder.func().value_type(value))
+    } else {
+        current_fault(builder)
+    }
+}
+
+// Why a variable may not be used: there is no current block, or it isn't declared.
+fn use_fault(builder: &FunctionBuilder<'_>, variable: Variable) -> Condition {
+    if has_current(builder) {
+        Condition::NoVariable(variable)
+    } else {
+        current_fault(builder)
+    }
 }
 
 // Whether a variable may be used: in a current unfilled block, if it is declared.
@@ -199,13 +219,13 @@ fn def_var(
     ensures { MakesCall (Call.DefVar variable name) builder.old builder.new answers.now result }
 {
     let Some(value) = value_named(builder.func(), answers, name) else {
-        return Err(CallError::Misuse);
+        return Err(CallError::Misuse(Condition::NoValue(name)));
     };
     let Some(ty) = type_of(types, variable) else {
-        return Err(CallError::Misuse);
+        return Err(CallError::Misuse(Condition::NoVariable(variable)));
     };
     if !may_define(builder, ty, value) {
-        return Err(CallError::Misuse);
+        return Err(CallError::Misuse(define_fault(builder, ty, value)));
     }
     builder.def_var(variable, value)?;
     Ok(Answer::Nothing)
@@ -223,7 +243,7 @@ fn use_var(
     ensures { MakesCall (Call.UseVar variable) builder.old builder.new answers.now result }
 {
     if !may_use(builder, types, variable) {
-        return Err(CallError::Misuse);
+        return Err(CallError::Misuse(use_fault(builder, variable)));
     }
     let value = builder.use_var(variable)?;
     Ok(one_value(value))
@@ -240,14 +260,29 @@ fn try_def_var(
     ensures { MakesCall (Call.TryDefVar variable name) builder.old builder.new answers.now result }
 {
     let Some(value) = value_named(builder.func(), answers, name) else {
-        return Err(CallError::Misuse);
+        return Err(CallError::Misuse(Condition::NoValue(name)));
     };
     if !has_current(builder) {
-        return Err(CallError::Misuse);
+        return Err(CallError::Misuse(current_fault(builder)));
     }
+    let found = builder.func().value_type(value);
     match builder.try_def_var(variable, value)? {
         Ok(()) => Ok(Answer::Nothing),
-        Err(_) => Err(CallError::Refused),
+        Err(error) => Err(CallError::Refused(assignment_fault(builder, error, found))),
+    }
+}
+
+// Why an assignment was refused, of a value of this type.
+fn assignment_fault(
+    builder: &FunctionBuilder<'_>,
+    error: DefVariableError,
+    found: Type,
+) -> Condition {
+    let (DefVariableError::TypeMismatch(variable, _)
+    | DefVariableError::DefinedBeforeDeclared(variable)) = error;
+    match builder.variable_type(variable) {
+        Some(wanted) => Condition::AssignedType(wanted, found),
+        None => Condition::NoVariable(variable),
     }
 }
 
@@ -261,11 +296,11 @@ fn try_use_var(
     ensures { MakesCall (Call.TryUseVar variable) builder.old builder.new answers.now result }
 {
     if !has_current(builder) {
-        return Err(CallError::Misuse);
+        return Err(CallError::Misuse(current_fault(builder)));
     }
     match builder.try_use_var(variable)? {
         Ok(value) => Ok(one_value(value)),
-        Err(_) => Err(CallError::Refused),
+        Err(_) => Err(CallError::Refused(Condition::NoVariable(variable))),
     }
 }
 

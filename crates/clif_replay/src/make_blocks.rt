@@ -6,7 +6,9 @@ ghost use Rattle.clif_replay.specs.Ready.{IsSound, can_switch, can_insert};
 
 use clif_builder::FunctionBuilder;
 use clif_calls::{Call, Name};
-use clif_resolution::{Answer, CallError, block_named, has_current, may_seal};
+use clif_resolution::{
+    Answer, CallError, Condition, block_named, current_fault, has_current, may_seal,
+};
 use clif_types::Block;
 
 // `create_block()`.
@@ -31,10 +33,10 @@ pub(crate) fn switch_to_block(
     ensures { MakesCall (Call.SwitchToBlock name) builder.old builder.new answers.now result }
 {
     let Some(block) = block_named(answers, name) else {
-        return Err(CallError::Misuse);
+        return Err(CallError::Misuse(Condition::NoBlock(name)));
     };
     if !may_switch(builder, block) {
-        return Err(CallError::Misuse);
+        return Err(CallError::Misuse(switch_fault(builder, block)));
     }
     builder.switch_to_block(block);
     Ok(Answer::Nothing)
@@ -45,6 +47,14 @@ fn may_switch(builder: &FunctionBuilder<'_>, block: Block) -> bool
     ensures { result ≡ can_switch builder.now block }
 {
     !builder.is_filled(block) && may_leave(builder)
+}
+
+// Why a block can't be switched to: it is filled, or the current block can't be left.
+fn switch_fault(builder: &FunctionBuilder<'_>, block: Block) -> Condition {
+    match builder.current_block() {
+        Some(current) if !builder.is_filled(block) => Condition::Unfilled(current),
+        _ => Condition::Filled(block),
+    }
 }
 
 // Whether the current block is absent, pristine, filled or unreachable.
@@ -69,10 +79,10 @@ pub(crate) fn seal_block(
     ensures { MakesCall (Call.SealBlock name) builder.old builder.new answers.now result }
 {
     let Some(block) = block_named(answers, name) else {
-        return Err(CallError::Misuse);
+        return Err(CallError::Misuse(Condition::NoBlock(name)));
     };
     if !may_seal(builder, block) {
-        return Err(CallError::Misuse);
+        return Err(CallError::Misuse(Condition::Sealed(block)));
     }
     builder.seal_block(block)?;
     Ok(Answer::Nothing)
@@ -100,6 +110,17 @@ fn may_insert(builder: &FunctionBuilder<'_>, block: Block, after: Block) -> bool
     !func.is_block_inserted(block) && func.is_block_inserted(after)
 }
 
+// Why a block can't be put behind another one: it is in the layout, or the other one isn't.
+fn insert_fault(builder: &FunctionBuilder<'_>, block: Block, after: Block) -> Condition
+    requires { block < length builder.now.func.now.blocks }
+{
+    if builder.func().is_block_inserted(block) {
+        Condition::Placed(block)
+    } else {
+        Condition::Unplaced(after)
+    }
+}
+
 // `insert_block_after(block, after)`, where the first block isn't in the layout and the second one is.
 pub(crate) fn insert_block_after(
     builder: &mut FunctionBuilder<'_>,
@@ -112,13 +133,13 @@ pub(crate) fn insert_block_after(
         builder.old builder.new answers.now result }
 {
     let Some(block) = block_named(answers, name) else {
-        return Err(CallError::Misuse);
+        return Err(CallError::Misuse(Condition::NoBlock(name)));
     };
     let Some(after) = block_named(answers, behind) else {
-        return Err(CallError::Misuse);
+        return Err(CallError::Misuse(Condition::NoBlock(behind)));
     };
     if !may_insert(builder, block, after) {
-        return Err(CallError::Misuse);
+        return Err(CallError::Misuse(insert_fault(builder, block, after)));
     }
     builder.insert_block_after(block, after)?;
     Ok(Answer::Nothing)
@@ -134,7 +155,7 @@ pub(crate) fn set_cold_block(
     ensures { MakesCall (Call.SetColdBlock name) builder.old builder.new answers.now result }
 {
     let Some(block) = block_named(answers, name) else {
-        return Err(CallError::Misuse);
+        return Err(CallError::Misuse(Condition::NoBlock(name)));
     };
     builder.set_cold_block(block);
     Ok(Answer::Nothing)
@@ -149,7 +170,7 @@ pub(crate) fn ensure_inserted_block(
     ensures { MakesCall Call.EnsureInsertedBlock builder.old builder.new answers.now result }
 {
     if !has_current(builder) {
-        return Err(CallError::Misuse);
+        return Err(CallError::Misuse(current_fault(builder)));
     }
     builder.ensure_inserted_block()?;
     Ok(Answer::Nothing)

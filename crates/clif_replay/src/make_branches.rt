@@ -8,7 +8,7 @@ ghost use Rattle.clif_replay.specs.Ready.{IsSound, can_change};
 use clif_builder::FunctionBuilder;
 use clif_builder::laws::leads_are_read_by_number;
 use clif_calls::{Call, Name};
-use clif_resolution::{Answer, CallError, block_named, inst_named, may_seal};
+use clif_resolution::{Answer, CallError, Condition, block_named, inst_named, may_seal};
 use clif_types::{Block, Inst};
 
 // `change_jump_destination(branch, from, to)`, of an instruction that leads to the first block, where both are unsealed.
@@ -25,16 +25,16 @@ pub(crate) fn change_jump_destination(
 {
     leads_are_read_by_number();
     let Some(inst) = inst_named(answers, branch) else {
-        return Err(CallError::Misuse);
+        return Err(CallError::Misuse(Condition::NoInst(branch)));
     };
     let Some(source) = block_named(answers, from) else {
-        return Err(CallError::Misuse);
+        return Err(CallError::Misuse(Condition::NoBlock(from)));
     };
     let Some(target) = block_named(answers, to) else {
-        return Err(CallError::Misuse);
+        return Err(CallError::Misuse(Condition::NoBlock(to)));
     };
     if !may_change(builder, inst, source, target) {
-        return Err(CallError::Misuse);
+        return Err(CallError::Misuse(change_fault(builder, inst, source, target)));
     }
     builder.change_jump_destination(inst, source, target)?;
     Ok(Answer::Nothing)
@@ -52,4 +52,15 @@ fn may_change(builder: &FunctionBuilder<'_>, inst: Inst, from: Block, to: Block)
     ensures { result ≡ can_change builder.now inst from to }
 {
     leads_to(builder, inst, from) && may_seal(builder, from) && may_seal(builder, to)
+}
+
+// Why it doesn't, or may not: it leads elsewhere, or one of the blocks is sealed.
+fn change_fault(builder: &FunctionBuilder<'_>, inst: Inst, from: Block, to: Block) -> Condition {
+    if !leads_to(builder, inst, from) {
+        Condition::LeadsElsewhere(inst, from)
+    } else if may_seal(builder, from) {
+        Condition::Sealed(to)
+    } else {
+        Condition::Sealed(from)
+    }
 }

@@ -10,8 +10,8 @@ ghost use Rattle.clif_replay.specs.Ready.{IsSound};
 use crate::make_instructions::{Lender, append};
 use clif_builder::{FunctionBuilder, InstBuilderBase};
 use clif_ir::InstructionData;
-use clif_opcodes::{Demand, PooledConstOpcode};
-use clif_resolution::{Answer, CallError, has_current};
+use clif_opcodes::{Demand, Opcode, PooledConstOpcode};
+use clif_resolution::{Answer, CallError, Condition, current_fault, has_current};
 use clif_types::{BuildError, Constant, Type};
 
 // The instruction with this opcode, of the constant of these bytes, in a current unfilled block. The type is `Invalid` where the
@@ -28,10 +28,10 @@ pub(crate) fn make_constant(
     ensures { MakesConstant opcode ty bytes.now builder.old builder.new answers.now result }
 {
     if !has_current(builder) {
-        return Err(CallError::Misuse);
+        return Err(CallError::Misuse(current_fault(builder)));
     }
     if !has_bytes(opcode, ty, bytes) {
-        return Err(CallError::Misuse);
+        return Err(CallError::Misuse(bytes_fault(opcode, ty, bytes)));
     }
     let constant = pool(builder, bytes)?;
     let shape = InstructionData::UnaryConst { opcode, constant };
@@ -54,6 +54,17 @@ fn has_bytes(opcode: PooledConstOpcode, ty: Type, bytes: &[u8]) -> bool
     match opcode {
         PooledConstOpcode::F128const => bytes.len() == 16,
         PooledConstOpcode::Vconst => Demand::AVector.is_met(ty) && bytes.len() == width(ty),
+    }
+}
+
+// Why they aren't: no constant has the type, or it has another number of bytes.
+fn bytes_fault(opcode: PooledConstOpcode, ty: Type, bytes: &[u8]) -> Condition {
+    match opcode {
+        PooledConstOpcode::F128const => Condition::Bytes(16, bytes.len()),
+        PooledConstOpcode::Vconst if Demand::AVector.is_met(ty) => {
+            Condition::Bytes(ty.bytes(), bytes.len())
+        }
+        PooledConstOpcode::Vconst => Condition::MadeAt(Opcode::PooledConst(opcode), ty),
     }
 }
 

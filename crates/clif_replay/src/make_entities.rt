@@ -10,7 +10,7 @@ ghost use Rattle.clif_replay.specs.Ready.{IsSound};
 
 use clif_builder::FunctionBuilder;
 use clif_calls::{Call, EntryCall, ImportedFunction};
-use clif_resolution::{Answer, CallError, Entry, has_signature, signature_named};
+use clif_resolution::{Answer, CallError, Condition, Entry, has_signature, signature_named};
 use clif_types::{
     BuildError, DynamicStackSlotData, ExtFuncData, GlobalValueData, Signature, StackSlotData,
 };
@@ -57,7 +57,7 @@ fn entry_found(
     match call {
         EntryCall::CreateSizedStackSlot { size, align_shift } => {
             if *align_shift >= ALIGN_SHIFTS {
-                return Err(CallError::Misuse);
+                return Err(CallError::Misuse(Condition::Alignment(*align_shift)));
             }
             Ok(NewEntry::StackSlot(StackSlotData::new(*size, *align_shift)))
         }
@@ -80,10 +80,10 @@ fn function_found(
         (function_in (numbers_at builder.now.func.now answers.now) function.now)) result }
 {
     let Some(signature) = signature_named(answers, function.signature) else {
-        return Err(CallError::Misuse);
+        return Err(CallError::Misuse(Condition::NoSignature(function.signature)));
     };
     if !has_signature(builder, signature) {
-        return Err(CallError::Misuse);
+        return Err(CallError::Misuse(Condition::NoSignature(function.signature)));
     }
     let name = function.name.clone()?;
     Ok(NewEntry::Function(ExtFuncData {

@@ -11,7 +11,7 @@ use clif_builder::{FunctionBuilder, InstBuilderBase};
 use clif_calls::{Call, Name, TableItem, ThrowingCall};
 use clif_ir::{ExceptionTableData, ExceptionTargets};
 use clif_resolution::{
-    Answer, CallError, Entry, edge_copied, has_signature, items_found, operands_found,
+    Answer, CallError, Condition, Entry, edge_copied, has_signature, items_found, operands_found,
     signature_named, with_table,
 };
 use clif_types::{BuildError, ExceptionTable, Type};
@@ -32,10 +32,10 @@ pub(crate) fn create_exception_table(
     let normal = edge_copied(builder.func().allocator(), answers, normal)?;
     let items = items_found(builder.func(), answers, items)?;
     let Some(sig) = signature_named(answers, signature) else {
-        return Err(CallError::Misuse);
+        return Err(CallError::Misuse(Condition::NoSignature(signature)));
     };
     if !has_signature(builder, sig) {
-        return Err(CallError::Misuse);
+        return Err(CallError::Misuse(Condition::NoSignature(signature)));
     }
     let made = builder.create_exception_table(ExceptionTableData { sig, normal, items })?;
     Ok(Answer::Entry(Entry::ExceptionTable(made)))

@@ -12,7 +12,7 @@ use crate::make::one_value;
 use clif_builder::{ConstantOperands, FunctionBuilder};
 use clif_calls::{ImmediateCall, Name};
 use clif_constant_calls::laws::constant_operands_stand;
-use clif_resolution::{Answer, CallError, has_current, value_named};
+use clif_resolution::{Answer, CallError, Condition, current_fault, has_current, value_named};
 use clif_types::{BuildError, Value};
 
 // An instruction with a constant as an operand, in a current unfilled block, of an integer.
@@ -25,11 +25,12 @@ pub(crate) fn make_immediate(
     ensures { MakesEmission call builder.old builder.new answers.now result }
 {
     constant_operands_stand();
-    let Some(x) = value_named(builder.func(), answers, operand_in(call)) else {
-        return Err(CallError::Misuse);
+    let name = operand_in(call);
+    let Some(x) = value_named(builder.func(), answers, name) else {
+        return Err(CallError::Misuse(Condition::NoValue(name)));
     };
     if !may_take_constant(builder, x) {
-        return Err(CallError::Misuse);
+        return Err(CallError::Misuse(constant_fault(builder, x)));
     }
     let value = emit(builder, call, x)?;
     Ok(one_value(value))
@@ -50,6 +51,15 @@ fn may_take_constant(builder: &FunctionBuilder<'_>, x: Value) -> bool
     ensures { result ≡ can_take_constant builder.now x }
 {
     has_current(builder) && builder.func().value_type(x).is_int()
+}
+
+// Why it may not: there is no current block, or the value isn't an integer.
+fn constant_fault(builder: &FunctionBuilder<'_>, x: Value) -> Condition {
+    if has_current(builder) {
+        Condition::NoInteger(x)
+    } else {
+        current_fault(builder)
+    }
 }
 
 // The constant, which has 64 bits, and then the instruction on a value and it.

@@ -8,7 +8,7 @@ use clif_builder::FunctionBuilder;
 use clif_builder::laws::ledger_is_read_by_number;
 use clif_calls::{Call, Name};
 use clif_records::Variable;
-use clif_resolution::{Answer, CallError, value_named};
+use clif_resolution::{Answer, CallError, Condition, value_named};
 use clif_stack_slots::SlotSize;
 use clif_types::{Type, Value};
 use std::convert::TryFrom;
@@ -25,7 +25,7 @@ pub(crate) fn declare_var_needs_stack_map(
 {
     ledger_is_read_by_number();
     if !may_mark(builder, variable) {
-        return Err(CallError::Misuse);
+        return Err(CallError::Misuse(mark_fault(builder, variable)));
     }
     builder.declare_var_needs_stack_map(variable)?;
     Ok(Answer::Nothing)
@@ -42,10 +42,10 @@ pub(crate) fn declare_value_needs_stack_map(
         builder.old builder.new answers.now result }
 {
     let Some(value) = value_named(builder.func(), answers, name) else {
-        return Err(CallError::Misuse);
+        return Err(CallError::Misuse(Condition::NoValue(name)));
     };
     if !may_record(builder, value) {
-        return Err(CallError::Misuse);
+        return Err(CallError::Misuse(record_fault(builder, value)));
     }
     builder.declare_value_needs_stack_map(value)?;
     Ok(Answer::Nothing)
@@ -62,12 +62,28 @@ fn may_mark(builder: &FunctionBuilder<'_>, variable: Variable) -> bool
     }
 }
 
+// Why they may not: the variable isn't declared, or was used or assigned, or its type doesn't fit.
+fn mark_fault(builder: &FunctionBuilder<'_>, variable: Variable) -> Condition {
+    match builder.variable_type(variable) {
+        Some(ty) if !fits_stack_map(ty) => Condition::NoRoom(ty),
+        Some(_) => Condition::Touched(variable),
+        None => Condition::NoVariable(variable),
+    }
+}
+
 // Whether stack maps may be asked for a value.
 fn may_record(builder: &FunctionBuilder<'_>, value: Value) -> bool
     requires { value < length builder.now.func.now.values }
     ensures { result ≡ can_record builder.now value }
 {
     fits_stack_map(builder.func().value_type(value))
+}
+
+// That stack maps may not be asked for a value, since its type doesn't fit.
+fn record_fault(builder: &FunctionBuilder<'_>, value: Value) -> Condition
+    requires { value < length builder.now.func.now.values }
+{
+    Condition::NoRoom(builder.func().value_type(value))
 }
 
 // Whether a stack map has room for a value of a type.

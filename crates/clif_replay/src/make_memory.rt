@@ -1,5 +1,5 @@
 //! The memory helpers of a script, each made on a builder if its condition holds.
-ghost use Rattle.std.specs.Prelude.{◌≡◌, ◌<◌, [], ◌∷◌, length, IfSome, None, Some, false};
+ghost use Rattle.std.specs.Prelude.{◌≡◌, ◌<◌, [], ◌∷◌, length, IfOk, OnErr, Some, false};
 ghost use Rattle.clif_meaning.specs.ByteOperation.{CallLibrary};
 ghost use Rattle.clif_memory_helpers.specs.Helpers.{MayHelp, may_make};
 ghost use Rattle.clif_replay.specs.Emits.{AreOperands, CallsHelper, MakesMemory, as_nothing, as_value, three_values, values_in};
@@ -15,7 +15,7 @@ use clif_calls::{MemoryCall, Name, is_unsigned};
 use clif_ir::Function;
 use clif_memory_helpers::MemoryHelpers;
 use clif_memory_helpers::laws::helpers_are_lines;
-use clif_resolution::{Answer, CallError, has_current, value_named};
+use clif_resolution::{Answer, CallError, Condition, current_fault, has_current, value_named};
 use clif_types::types::I8;
 use clif_types::{BuildError, LibCall, PointerWidth, TargetFrontendConfig, Value};
 
@@ -39,23 +39,28 @@ pub(crate) fn make_memory(
 {
     helpers_are_lines();
     notes_add_nothing();
-    let Some(operands) = operands_of(builder.func(), answers, call) else {
-        return Err(CallError::Misuse);
+    let operands = match operands_of(builder.func(), answers, call) {
+        Ok(operands) => operands,
+        Err(condition) => return Err(CallError::Misuse(condition)),
     };
     if !may_help(builder, config.pointer_width, call, &operands) {
-        return Err(CallError::Misuse);
+        return Err(CallError::Misuse(help_fault(builder, config.pointer_width, call, &operands)));
     }
     let answer = help(builder, config, call, &operands)?;
     Ok(answer)
 }
 
 // The operands, if each name leads to a value.
-fn operands_of(func: &Function, answers: &[Answer], call: &MemoryCall) -> Option<Operands>
+fn operands_of(
+    func: &Function,
+    answers: &[Answer],
+    call: &MemoryCall,
+) -> Result<Operands, Condition>
     requires { AnswersExist func.now answers.now }
-    ensures found { IfSome result (AreOperands func.now answers.now call.now) }
-    ensures named { IfSome result (λ values. IsNamed func.now answers.now values.second) }
-    ensures missing { result ≡ None
-        → all_values func.now answers.now (operands_in call.now) ≡ false }
+    ensures found { IfOk result (AreOperands func.now answers.now call.now) }
+    ensures named { IfOk result (λ values. IsNamed func.now answers.now values.second) }
+    ensures missing { OnErr result
+        (all_values func.now answers.now (operands_in call.now) ≡ false) }
 {
     match call {
         MemoryCall::CallLibrary {
@@ -77,21 +82,21 @@ fn three_of(
     first: Name,
     second: Name,
     third: Name,
-) -> Option<Operands>
+) -> Result<Operands, Condition>
     requires { AnswersExist func.now answers.now }
-    ensures first { IfSome result (λ values.
+    ensures first { IfOk result (λ values.
         value_of func.now answers.now first ≡ Some values.first) }
-    ensures second { IfSome result (λ values.
+    ensures second { IfOk result (λ values.
         value_of func.now answers.now second ≡ Some values.second) }
-    ensures third { IfSome result (λ values.
+    ensures third { IfOk result (λ values.
         value_of func.now answers.now third ≡ Some values.third) }
-    ensures missing { result ≡ None
-        → all_values func.now answers.now (first ∷ second ∷ third ∷ []) ≡ false }
+    ensures missing { OnErr result
+        (all_values func.now answers.now (first ∷ second ∷ third ∷ []) ≡ false) }
 {
-    Some(Operands {
-        first: value_named(func, answers, first)?,
-        second: value_named(func, answers, second)?,
-        third: value_named(func, answers, third)?,
+    Ok(Operands {
+        first: value_named(func, answers, first).ok_or(Condition::NoValue(first))?,
+        second: value_named(func, answers, second).ok_or(Condition::NoValue(second))?,
+        third: value_named(func, answers, third).ok_or(Condition::NoValue(third))?,
     })
 }
 
@@ -143,6 +148,48 @@ fn may_make(pointer: PointerWidth, call: &MemoryCall) -> bool
         MemoryCall::Compare { int_cc, size, .. } => {
             is_unsigned(*int_cc) && fits_pointer(pointer, *size)
         }
+    }
+}
+
+// Why the helper may not be called: the first condition that doesn't hold.
+fn help_fault(
+    builder: &FunctionBuilder<'_>,
+    pointer: PointerWidth,
+    call: &MemoryCall,
+    operands: &Operands,
+) -> Condition {
+    if !has_current(builder) {
+        return current_fault(builder);
+    }
+    match call {
+        MemoryCall::CallLibrary { .. } => Condition::NoByte(operands.second),
+        MemoryCall::Copy {
+            size,
+            dest_align,
+            src_align,
+            ..
+        } => size_fault(pointer, *size, (*dest_align).min(*src_align)),
+        MemoryCall::Fill {
+            size,
+            buffer_align,
+            ..
+        } => size_fault(pointer, *size, *buffer_align),
+        MemoryCall::Compare { int_cc, size, .. } => {
+            if is_unsigned(*int_cc) {
+                Condition::Size(*size)
+            } else {
+                Condition::Signed(*int_cc)
+            }
+        }
+    }
+}
+
+// Why so many bytes may not be moved with this alignment.
+fn size_fault(pointer: PointerWidth, size: u64, alignment: u8) -> Condition {
+    if fits_pointer(pointer, size) {
+        Condition::MovedAlignment(alignment, size)
+    } else {
+        Condition::Size(size)
     }
 }
 

@@ -8,7 +8,7 @@ ghost use Rattle.clif_replay.specs.Ready.{IsSound};
 use clif_builder::FunctionBuilder;
 use clif_builder::laws::notes_add_nothing;
 use clif_calls::{Call, Name};
-use clif_resolution::{Answer, CallError, value_named};
+use clif_resolution::{Answer, CallError, Condition, value_named};
 use clif_types::{SourceLoc, ValueLabel};
 
 // `set_srcloc(srcloc)`.
@@ -54,7 +54,7 @@ pub(crate) fn set_val_label(
 {
     notes_add_nothing();
     let Some(value) = value_named(builder.func(), answers, name) else {
-        return Err(CallError::Misuse);
+        return Err(CallError::Misuse(Condition::NoValue(name)));
     };
     builder.set_val_label(value, label)?;
     Ok(Answer::Nothing)

@@ -9,7 +9,7 @@ ghost use Rattle.clif_replay.specs.Ready.{IsSound, can_append, can_append_functi
 use crate::make::one_value;
 use clif_builder::FunctionBuilder;
 use clif_calls::{Call, Name};
-use clif_resolution::{Answer, CallError, block_named};
+use clif_resolution::{Answer, CallError, Condition, block_named};
 use clif_types::{Block, Type};
 
 // `append_block_param(block, ty)`, where nothing was made in the block.
@@ -23,10 +23,10 @@ pub(crate) fn append_block_param(
     ensures { MakesCall (Call.AppendBlockParam name ty) builder.old builder.new answers.now result }
 {
     let Some(block) = block_named(answers, name) else {
-        return Err(CallError::Misuse);
+        return Err(CallError::Misuse(Condition::NoBlock(name)));
     };
     if !may_append(builder, block) {
-        return Err(CallError::Misuse);
+        return Err(CallError::Misuse(Condition::Begun(block)));
     }
     let value = builder.append_block_param(block, ty)?;
     Ok(one_value(value))
@@ -43,10 +43,10 @@ pub(crate) fn append_block_params_for_function_params(
         builder.old builder.new answers.now result }
 {
     let Some(block) = block_named(answers, name) else {
-        return Err(CallError::Misuse);
+        return Err(CallError::Misuse(Condition::NoBlock(name)));
     };
     if !may_append_function_params(builder, block) {
-        return Err(CallError::Misuse);
+        return Err(CallError::Misuse(append_fault(builder, block)));
     }
     let count = builder.func().signature().params.len();
     builder.append_block_params_for_function_params(block)?;
@@ -64,10 +64,10 @@ pub(crate) fn append_block_params_for_function_returns(
         builder.old builder.new answers.now result }
 {
     let Some(block) = block_named(answers, name) else {
-        return Err(CallError::Misuse);
+        return Err(CallError::Misuse(Condition::NoBlock(name)));
     };
     if !may_append(builder, block) {
-        return Err(CallError::Misuse);
+        return Err(CallError::Misuse(Condition::Begun(block)));
     }
     let count = builder.func().signature().returns.len();
     builder.append_block_params_for_function_returns(block)?;
@@ -86,6 +86,15 @@ fn may_append_function_params(builder: &FunctionBuilder<'_>, block: Block) -> bo
     ensures { result ≡ can_append_function_params builder.now block }
 {
     may_append(builder, block) && is_alone(builder, block)
+}
+
+// Why a block can't get the function's parameters: something was made in it, or a branch leads to it.
+fn append_fault(builder: &FunctionBuilder<'_>, block: Block) -> Condition {
+    if may_append(builder, block) {
+        Condition::Reached(block)
+    } else {
+        Condition::Begun(block)
+    }
 }
 
 // Whether no branch leads to a block.

@@ -11,7 +11,9 @@ ghost use Rattle.clif_resolution.specs.declared.answers.CallError.TheVariants as
 
 use clif_builder::FunctionBuilder;
 use clif_calls::{Name, SwitchEntry};
-use clif_resolution::{Answer, CallError, block_named, has_current, may_seal, value_named};
+use clif_resolution::{
+    Answer, CallError, Condition, block_named, current_fault, has_current, may_seal, value_named,
+};
 use clif_switch::{Switch, SwitchError};
 use clif_switch_calls::laws::refusals_are_of_keys;
 use clif_types::Value;
@@ -29,13 +31,13 @@ pub(crate) fn make_switch(
 {
     refusals_are_of_keys();
     let Some(val) = value_named(builder.func(), answers, value) else {
-        return Err(CallError::Misuse);
+        return Err(CallError::Misuse(Condition::NoValue(value)));
     };
     let Some(other) = block_named(answers, otherwise) else {
-        return Err(CallError::Misuse);
+        return Err(CallError::Misuse(Condition::NoBlock(otherwise)));
     };
     if !may_switch(builder, answers, entries, val, otherwise) {
-        return Err(CallError::Misuse);
+        return Err(CallError::Misuse(switch_fault(builder, answers, entries, val, otherwise)));
     }
     let switch = switch_of(builder, answers, entries)?;
     match switch.emit(builder, val, other) {
@@ -59,6 +61,40 @@ fn may_switch(
         && builder.func().value_type(val).is_int()
         && may_target(builder, answers, otherwise)
         && may_target_all(builder, answers, entries)
+}
+
+// Why it may not be made: the first condition that doesn't hold.
+fn switch_fault(
+    builder: &FunctionBuilder<'_>,
+    answers: &[Answer],
+    entries: &[SwitchEntry],
+    val: Value,
+    otherwise: Name,
+) -> Condition
+    requires { val < length builder.now.func.now.values }
+{
+    if !has_current(builder) {
+        return current_fault(builder);
+    }
+    if !builder.func().value_type(val).is_int() {
+        return Condition::NoInteger(val);
+    }
+    if may_target(builder, answers, otherwise) {
+        for entry in entries.iter() {
+            if !may_target(builder, answers, entry.block) {
+                return target_fault(answers, entry.block);
+            }
+        }
+    }
+    target_fault(answers, otherwise)
+}
+
+// Why a switch may not lead to what a name leads to.
+fn target_fault(answers: &[Answer], name: Name) -> Condition {
+    match block_named(answers, name) {
+        Some(block) => Condition::Sealed(block),
+        None => Condition::NoBlock(name),
+    }
 }
 
 // Whether a name leads to a block that isn't sealed.
@@ -97,13 +133,13 @@ fn switch_of(
     ensures ok { IfOk result (λ switch. switch ≡ cases_at answers.now entries.now) }
     ensures once { IfOk result (λ switch. are_twice entries.now ≡ false) }
     ensures err { IfErr result (λ error.
-        ((error ≡ CallError.Refused) × (are_twice entries.now ≡ true))
+        ((why : Condition) × (error ≡ CallError.Refused why) × (are_twice entries.now ≡ true))
         ⊎ (error ≡ CallError.Memory)) }
 {
     let mut switch = Switch::new(builder.func().allocator());
     for entry in entries.iter() {
         let Some(block) = block_named(answers, entry.block) else {
-            return Err(CallError::Misuse);
+            return Err(CallError::Misuse(Condition::NoBlock(entry.block)));
         };
         if let Err(error) = switch.set_entry(entry.key, block) {
             return Err(told(error));
@@ -118,8 +154,8 @@ fn told(error: SwitchError) -> CallError
 {
     match error {
         SwitchError::Build(error) => CallError::from(error),
-        SwitchError::SetTwice(_) | SwitchError::KeyTooWide { .. } | SwitchError::TableTooLong => {
-            CallError::Refused
-        }
+        SwitchError::SetTwice(key) => CallError::Refused(Condition::KeyTwice(key)),
+        SwitchError::KeyTooWide { ty, max } => CallError::Refused(Condition::KeyTooWide(ty, max)),
+        SwitchError::TableTooLong => CallError::Refused(Condition::TableTooLong),
     }
 }

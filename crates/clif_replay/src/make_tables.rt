@@ -13,8 +13,8 @@ use clif_builder::{FunctionBuilder, InstBuilder};
 use clif_calls::{Call, Name, TableEdge};
 use clif_ir::JumpTableData;
 use clif_resolution::{
-    Answer, CallError, Entry, edge_copied, edge_found, edges_copied, has_current, jump_table_named,
-    may_serve, value_named,
+    Answer, CallError, Condition, Entry, current_fault, edge_copied, edge_found, edges_copied,
+    has_current, jump_table_named, may_serve, serving_fault, value_named,
 };
 use clif_types::{BuildError, Inst, JumpTable, Type, Value};
 
@@ -64,16 +64,16 @@ pub(crate) fn br_table(
 {
     requests_ask_for_their_shapes();
     if !has_current(builder) {
-        return Err(CallError::Misuse);
+        return Err(CallError::Misuse(current_fault(builder)));
     }
     let Some(value) = value_named(builder.func(), answers, index) else {
-        return Err(CallError::Misuse);
+        return Err(CallError::Misuse(Condition::NoValue(index)));
     };
     let Some(table) = jump_table_named(answers, name) else {
-        return Err(CallError::Misuse);
+        return Err(CallError::Misuse(Condition::NoTable(name)));
     };
     if !may_serve(builder, table) {
-        return Err(CallError::Misuse);
+        return Err(CallError::Misuse(serving_fault(builder, table)));
     }
     let inst = branch(builder, value, table)?;
     Ok(Answer::Inst(inst))

@@ -20,8 +20,8 @@ use clif_builder::laws::ledger_is_read_by_number;
 use clif_builder::{FinalizeError, FunctionBuilder, FunctionBuilderContext};
 use clif_calls::Call;
 use clif_ir::Function;
-use clif_resolution::{Answer, CallError};
-use clif_types::{Signature, TargetFrontendConfig, UserFuncName};
+use clif_resolution::{Answer, CallError, Condition};
+use clif_types::{EntityRef, Signature, TargetFrontendConfig, UserFuncName};
 use std::alloc::{AllocFailed, Global};
 use std::error::Error;
 use std::fmt;
@@ -73,10 +73,60 @@ fn told_at(error: CallError, place: usize) -> ReplayError
     ensures { result ≡ replay_error_at error place }
 {
     match error {
-        CallError::Misuse => ReplayError::Misuse(place),
-        CallError::Refused => ReplayError::Refused(place),
+        CallError::Misuse(_) => ReplayError::Misuse(place),
+        CallError::Refused(_) => ReplayError::Refused(place),
         CallError::Memory => ReplayError::Memory,
         CallError::Full => ReplayError::Full,
+    }
+}
+
+/// What a replay tells beside its answer.
+#[derive(Drop)]
+pub struct ReplayNotes {
+    /// Of the call that was misused or refused, or of the end of a script that was: the first condition that doesn't hold.
+    pub condition: Option<Condition>,
+    /// How many instructions the function had after each call that was made, in the order of the calls.
+    pub inst_counts: Vec<usize>,
+    /// The numbers of the blocks that the calls created, in their order.
+    pub blocks: Vec<usize>,
+}
+
+impl ReplayNotes {
+    /// Nothing is told so far.
+    pub fn new(alloc: Global) -> ReplayNotes {
+        ReplayNotes {
+            condition: None,
+            inst_counts: Vec::new(alloc),
+            blocks: Vec::new(alloc),
+        }
+    }
+
+    // Notes what there is after a call that gave this answer.
+    fn note_call(&mut self, func: &Function, answer: &Answer) -> Result<(), AllocFailed<usize>> {
+        self.inst_counts.push(func.inst_count())?;
+        match answer {
+            Answer::Block(block) => self.blocks.push(block.index()),
+            _ => Ok(()),
+        }
+    }
+
+    // Notes why a call wasn't made.
+    fn note_error(&mut self, error: CallError) {
+        self.condition = match error {
+            CallError::Misuse(condition) | CallError::Refused(condition) => Some(condition),
+            CallError::Memory | CallError::Full => None,
+        };
+    }
+
+    // Notes why the function wasn't finished.
+    fn note_end(&mut self, error: FinalizeError) {
+        self.condition = match error {
+            FinalizeError::Unsealed(block) => Some(Condition::Unsealed(block)),
+            FinalizeError::Unfilled(block) => Some(Condition::Unended(block)),
+            FinalizeError::TrackedContext(inst) => Some(Condition::TrackedContext(inst)),
+            FinalizeError::Failed => Some(Condition::Failed),
+            FinalizeError::Memory | FinalizeError::Full => None,
+        };
     }
 }
 
@@ -116,8 +166,45 @@ pub fn replay(
         → result ≢ Err ReplayError.Full
         → TellsVerdict config calls.now signature result }
 {
+    let mut notes = ReplayNotes::new(alloc);
+    replay_noted(alloc, calls, name, signature, ctx, config, &mut notes)
+}
+
+/// The same, with notes of the condition of a call that was misused or refused, and of what there was after each call.
+///
+/// # Errors
+///
+/// Those of [`replay`].
+pub fn replay_noted(
+    alloc: Global,
+    calls: &[Call],
+    name: UserFuncName,
+    signature: Signature,
+    ctx: &mut FunctionBuilderContext,
+    config: TargetFrontendConfig,
+    notes: &mut ReplayNotes,
+) -> Result<Function, ReplayError>
+    requires { ctx.old ≡ empty_context }
+    ensures same_meaning { IfOk result (λ function.
+        CallsMeanTheSame (calls_of config signature calls.now) signature config.pointer_width
+        (view_of function)) }
+    ensures built { IfOk result (λ function. IsBuiltBy config calls.now signature function) }
+    ensures edges_match { IfOk result (λ function.
+        CallersEdgesMatchInCalls (calls_of config signature calls.now)
+        → EdgesMatch (view_of function)) }
+    ensures name { IfOk result (λ function. function.name ≡ name) }
+    ensures context { ctx.new ≡ empty_context }
+    ensures misuse { (i : ℕ) → result ≡ Err (ReplayError.Misuse i) → i < length calls.now }
+    ensures refused { (i : ℕ) → result ≡ Err (ReplayError.Refused i) → MayBeRefused calls.now i }
+    ensures table_full { result ≡ Err ReplayError.Full
+        → IsStoppedByTable config calls.now name signature
+        ⊎ IsStoppedInSpilling config calls.now signature }
+    ensures verdict { result ≢ Err ReplayError.Memory
+        → result ≢ Err ReplayError.Full
+        → TellsVerdict config calls.now signature result }
+{
     let mut func = Function::with_name_signature(alloc, name, signature);
-    build(alloc, calls, &mut func, ctx, config)?;
+    build(alloc, calls, &mut func, ctx, config, notes)?;
     Ok(func)
 }
 
@@ -142,6 +229,7 @@ fn build(
     func: &mut Function,
     ctx: &mut FunctionBuilderContext,
     config: TargetFrontendConfig,
+    notes: &mut ReplayNotes,
 ) -> Result<(), ReplayError>
     requires fresh { func.old ≡ empty_body func.old.name func.old.signature }
     requires empty { ctx.old ≡ empty_context }
@@ -151,12 +239,15 @@ fn build(
     ensures context { ctx.new ≡ empty_context }
 {
     let mut builder = FunctionBuilder::new(func, ctx);
-    let made = make_calls(alloc, &mut builder, calls, config);
+    let made = make_calls(alloc, &mut builder, calls, config, notes);
     let finished = builder.finalize(config);
     made?;
     match finished {
         Ok(()) => Ok(()),
-        Err(error) => Err(ended_at(error, calls.len())),
+        Err(error) => {
+            notes.note_end(error);
+            Err(ended_at(error, calls.len()))
+        }
     }
 }
 
@@ -166,6 +257,7 @@ fn make_calls(
     builder: &mut FunctionBuilder<'_>,
     calls: &[Call],
     config: TargetFrontendConfig,
+    notes: &mut ReplayNotes,
 ) -> Result<(), ReplayError>
     requires ready { StandsFor builder.old.func.now.signature [] builder.old }
     requires types { builder.old.ctx.now.variables ≡ [] }
@@ -196,8 +288,14 @@ fn make_calls(
     let mut types = Vec::new(alloc);
     for (place, call) in calls.iter().enumerate() {
         match make_call(builder, answers.as_slice(), types.as_slice(), config, call) {
-            Ok(answer) => answers.push(answer)?,
-            Err(error) => return Err(told_at(error, place)),
+            Ok(answer) => {
+                notes.note_call(builder.func(), &answer)?;
+                answers.push(answer)?;
+            }
+            Err(error) => {
+                notes.note_error(error);
+                return Err(told_at(error, place));
+            }
         }
         if let Call::DeclareVar { ty } = call {
             types.push(*ty)?;

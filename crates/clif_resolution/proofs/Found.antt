@@ -22,6 +22,7 @@ use Rattle.clif_types.specs.declared.error.BuildError.TheVariants.{Full}
 use Rattle.clif_calls.specs.declared.table.Passed.{Passed}
 use Rattle.clif_calls.specs.declared.table.Passed.TheVariants as passed
 use Rattle.clif_calls.specs.declared.table.TableEdge.{TableEdge}
+use Rattle.clif_resolution.specs.declared.condition.Condition.{Condition}
 use Rattle.clif_resolution.specs.declared.answers.CallError.{CallError}
 use Rattle.clif_resolution.specs.declared.answers.CallError.TheVariants as error
 
@@ -72,11 +73,11 @@ edge-there b answers edge call is =
     and_from (is_some (block_of answers edge.block)) (all_passed b.func.now answers edge.args.items) (ap is_some is.target)
     (passed-found b.func.now answers edge.args.items call.args is.passed)
 
-pub found-misuse : {X : Type 0} {Found : X → Type 0} {there : Bool} → there ≡ false → Finds Found there (Err error.Misuse)
-found-misuse none = record { found = tt; may = tt; misuse = λ same. none; never_refused = λ same. cc; never_full = λ same. cc }
+pub found-misuse : {X : Type 0} {Found : X → Type 0} {there : Bool} {why : Condition} → there ≡ false → Finds Found there (Err (error.Misuse why))
+found-misuse none = record { found = tt; may = tt; misuse = λ other same. none; never_refused = λ other same. cc; never_full = λ same. cc }
 
 pub found-one : {X : Type 0} {Found : X → Type 0} {there : Bool} (x : X) → Found x → there ≡ true → Finds Found there (Ok x)
-found-one {X = X} x found may = record { found = found; may = may; misuse = λ same. absurd (no-error error.Misuse same); never_refused = no-error error.Refused; never_full = no-error error.Full }
+found-one {X = X} x found may = record { found = found; may = may; misuse = λ why same. absurd (no-error (error.Misuse why) same); never_refused = λ why. no-error (error.Refused why); never_full = no-error error.Full }
   where
     no-error : (e : CallError) → ◌≡◌ {A = Result X CallError} (Ok x) (Err e) → ⊥
     no-error e same = cc

@@ -14,6 +14,7 @@ use Rattle.clif_calls.specs.declared.table.TableItem.{TableItem}
 use Rattle.clif_calls.specs.declared.table.TableItem.TheVariants as item
 use Rattle.clif_resolution.specs.declared.answers.Answer.{Answer}
 use Rattle.clif_resolution.specs.declared.answers.Answer.TheVariants as answer
+use Rattle.clif_resolution.specs.declared.condition.Condition.{Condition}
 use Rattle.clif_resolution.specs.declared.answers.CallError.{CallError}
 use Rattle.clif_resolution.specs.declared.answers.CallError.TheVariants as error
 
@@ -107,6 +108,6 @@ all_items f answers items = list_all (λ one. is_some (item_in f answers one)) i
 pub record Finds {X : Type 0} (Found : X → Type 0) (there : Bool) (result : Result X CallError) : Type 0 where
   pub found : IfOk result Found
   pub may : OnOk result (there ≡ true)
-  pub misuse : result ≡ Err error.Misuse → there ≡ false
-  pub never_refused : result ≢ Err error.Refused
+  pub misuse : (why : Condition) → result ≡ Err (error.Misuse why) → there ≡ false
+  pub never_refused : (why : Condition) → result ≢ Err (error.Refused why)
   pub never_full : result ≢ Err error.Full

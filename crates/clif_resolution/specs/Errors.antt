@@ -3,6 +3,7 @@ use Rattle.clif_types.specs.declared.error.BuildError.{BuildError}
 use Rattle.clif_types.specs.declared.error.BuildError.TheVariants as build
 use Rattle.clif_resolution.specs.declared.answers.CallError.{CallError}
 use Rattle.clif_resolution.specs.declared.answers.CallError.TheVariants as call
+use Rattle.clif_resolution.specs.declared.condition.Condition.TheVariants as condition
 
 -- memory was refused
 abbrev pub call_memory : CallError
@@ -12,4 +13,4 @@ call_memory = call.Memory
 abbrev pub call_error_of : BuildError → CallError
 call_error_of build.Memory = call.Memory
 call_error_of build.Full = call.Full
-call_error_of build.Failed = call.Refused
+call_error_of build.Failed = call.Refused condition.Failed

@@ -2,6 +2,7 @@
 ghost use Rattle.std.specs.Prelude.{◌≡◌, ◌<◌};
 ghost use Rattle.clif_resolution.specs.Errors.{call_error_of, call_memory};
 
+use crate::condition::Condition;
 use clif_ir::BlockCall;
 use clif_records::Variable;
 use clif_types::{
@@ -52,12 +53,12 @@ pub enum Answer {
 }
 
 /// Why one call didn't succeed.
-#[derive(Clone, Copy, Debug, PartialEq, Eq)]
+#[derive(Clone, Copy)]
 pub enum CallError {
-    /// a condition of the call doesn't hold, or a name in it leads to no such answer
-    Misuse,
+    /// this condition of the call doesn't hold, or a name in it leads to no such answer
+    Misuse(Condition),
     /// the builder refused the call, for another cause than the two below
-    Refused,
+    Refused(Condition),
     /// memory was refused
     Memory,
     /// a table is full
@@ -71,7 +72,7 @@ impl From<BuildError> for CallError {
         match error {
             BuildError::Memory => CallError::Memory,
             BuildError::Full => CallError::Full,
-            BuildError::Failed => CallError::Refused,
+            BuildError::Failed => CallError::Refused(Condition::Failed),
         }
     }
 }

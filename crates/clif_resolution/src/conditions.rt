@@ -3,6 +3,7 @@ ghost use Rattle.std.specs.Prelude.{◌≡◌, ◌<◌, length, Some, is_some, f
 ghost use Rattle.clif_resolution.specs.Conditions.{is_open, can_seal};
 ghost use Rattle.std.specs.List.{list_all};
 
+use crate::condition::Condition;
 use clif_builder::FunctionBuilder;
 use clif_ir::BlockCall;
 use clif_types::{Block, SigRef};
@@ -14,6 +15,14 @@ pub fn has_current(builder: &FunctionBuilder<'_>) -> bool
     match builder.current_block() {
         None => false,
         Some(block) => !builder.is_filled(block),
+    }
+}
+
+/// Why there is no current block to which something may be appended.
+pub fn current_fault(builder: &FunctionBuilder<'_>) -> Condition {
+    match builder.current_block() {
+        None => Condition::NoCurrent,
+        Some(block) => Condition::Filled(block),
     }
 }
 
@@ -34,6 +43,19 @@ pub(crate) fn are_open(builder: &FunctionBuilder<'_>, edges: &[BlockCall]) -> bo
         }
     }
     true
+}
+
+// The first target of these edges that is sealed.
+pub(crate) fn sealed_target(
+    builder: &FunctionBuilder<'_>,
+    edges: &[BlockCall],
+) -> Option<Condition> {
+    for edge in edges.iter() {
+        if !may_seal(builder, edge.block) {
+            return Some(Condition::Sealed(edge.block));
+        }
+    }
+    None
 }
 
 /// Whether a signature was imported.

@@ -7,7 +7,8 @@ ghost use Rattle.clif_resolution.specs.Conditions.{tries};
 ghost use Rattle.clif_resolution.specs.Entries.{ExceptionTables, numbers_at};
 
 use crate::answers::{Answer, CallError};
-use crate::conditions::{are_open, has_current, has_signature};
+use crate::condition::Condition;
+use crate::conditions::{are_open, current_fault, has_current, has_signature, sealed_target};
 use crate::entries::{exception_table_named, function_named};
 use crate::names::{value_named, values_named};
 use crate::tables::edge_copied;
@@ -37,7 +38,7 @@ fn item_found(
         }
         TableItem::Context(name) => match value_named(func, answers, name) {
             Some(value) => Ok(ExceptionTableItem::Context(value)),
-            None => Err(CallError::Misuse),
+            None => Err(CallError::Misuse(Condition::NoValue(name))),
         },
     }
 }
@@ -55,10 +56,10 @@ pub fn items_found(
     requires { AnswersExist func.now answers.now }
     ensures found { IfOk result (λ made.
         map (item_in func.now answers.now) items.now ≡ map Some made.items) }
-    ensures misuse { result ≡ Err CallError.Misuse →
-        all_items func.now answers.now items.now ≡ false }
+    ensures misuse { (why : Condition) → result ≡ Err (CallError.Misuse why)
+        → all_items func.now answers.now items.now ≡ false }
     ensures never_full { result ≢ Err CallError.Full }
-    ensures never_refused { result ≢ Err CallError.Refused }
+    ensures never_refused { (why : Condition) → result ≢ Err (CallError.Refused why) }
 {
     let mut made = Vec::new(func.allocator());
     for item in items.iter() {
@@ -94,7 +95,7 @@ pub fn operands_found(
         (can_try builder.now answers.now called.now) result }
 {
     if !has_current(builder) {
-        return Err(CallError::Misuse);
+        return Err(CallError::Misuse(current_fault(builder)));
     }
     let args = values_tried(builder.func(), answers, called)?;
     let function = callee_found(builder.func(), answers, called)?;
@@ -132,13 +133,13 @@ fn callee_found(
 {
     match called {
         ThrowingCall::TryCall { function, .. } => {
-            let Some(function) = function_named(answers, *function) else {
-                return Err(CallError::Misuse);
+            let Some(func_ref) = function_named(answers, *function) else {
+                return Err(CallError::Misuse(Condition::NoFunction(*function)));
             };
-            if func.tables().function(function).is_none() {
-                return Err(CallError::Misuse);
+            if func.tables().function(func_ref).is_none() {
+                return Err(CallError::Misuse(Condition::NoEntry));
             }
-            Ok(Some(function))
+            Ok(Some(func_ref))
         }
         ThrowingCall::TryCallIndirect { .. } => Ok(None),
     }
@@ -154,10 +155,10 @@ fn table_found(
         (tries builder.now (numbers_at builder.now.func.now answers.now ExceptionTables name)) result }
 {
     let Some(table) = exception_table_named(answers, name) else {
-        return Err(CallError::Misuse);
+        return Err(CallError::Misuse(Condition::NoExceptions(name)));
     };
     if !tries(builder, table) {
-        return Err(CallError::Misuse);
+        return Err(CallError::Misuse(trying_fault(builder, table)));
     }
     Ok(table)
 }
@@ -173,6 +174,15 @@ fn tries(builder: &FunctionBuilder<'_>, table: ExceptionTable) -> bool
             are_open(builder, held.all_branches()) && has_signature(builder, held.signature())
         }
     }
+}
+
+// Why a table may serve no call: it serves one, or a target of its edges is sealed. (Its signature was imported when it was made.)
+fn trying_fault(builder: &FunctionBuilder<'_>, table: ExceptionTable) -> Condition {
+    let sealed = match builder.func().tables().exception_table(table) {
+        None => None,
+        Some(held) => sealed_target(builder, held.all_branches()),
+    };
+    sealed.unwrap_or(Condition::ExceptionsServed(table))
 }
 
 /// The instruction of a call of this function, or else of an address, with these values and what its table held.

@@ -3,6 +3,7 @@
 #![tactic(auto)]
 
 mod answers;
+mod condition;
 mod conditions;
 mod entries;
 mod exceptions;
@@ -12,7 +13,8 @@ mod plans;
 mod tables;
 
 pub use answers::{Answer, CallError, Entry};
-pub use conditions::{has_current, has_signature, may_seal};
+pub use condition::Condition;
+pub use conditions::{current_fault, has_current, has_signature, may_seal};
 pub use entries::{
     exception_table_named, function_named, jump_table_named, signature_named, stack_slot_named,
 };
@@ -20,4 +22,4 @@ pub use exceptions::{Tried, items_found, operands_found, with_table};
 pub use names::{block_named, inst_named, value_named};
 pub use outside::outside_call_found;
 pub use plans::{Planned, plan_found};
-pub use tables::{edge_copied, edge_found, edges_copied, may_serve};
+pub use tables::{edge_copied, edge_found, edges_copied, may_serve, serving_fault};

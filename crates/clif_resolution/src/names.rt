@@ -6,6 +6,7 @@ ghost use Rattle.clif_resolution.specs.Answers.{Finds, AnswerExists, AnswersExis
 ghost use Rattle.clif_resolution.specs.Conditions.{IsFound, may_lead};
 
 use crate::answers::{Answer, CallError};
+use crate::condition::Condition;
 use crate::conditions::may_seal;
 use clif_builder::FunctionBuilder;
 use clif_calls::{Edge, Name, Passed};
@@ -91,13 +92,15 @@ pub(crate) fn values_named(
     requires { AnswersExist func.now answers.now }
     ensures values { IfOk result (λ values.
         map (value_of func.now answers.now) names.now ≡ map Some values) }
-    ensures misuse { result ≡ Err CallError.Misuse → all_values func.now answers.now names.now ≡ false }
+    ensures misuse { (why : Condition) → result ≡ Err (CallError.Misuse why)
+        → all_values func.now answers.now names.now ≡ false }
     ensures never_full { result ≢ Err CallError.Full }
-    ensures never_refused { result ≢ Err CallError.Refused }
+    ensures never_refused { (why : Condition) → result ≢ Err (CallError.Refused why) }
 {
     let mut values = ValueList::new(func.allocator());
     for name in names.iter() {
-        let value = value_named(func, answers, *name).ok_or(CallError::Misuse)?;
+        let missing = CallError::Misuse(Condition::NoValue(*name));
+        let value = value_named(func, answers, *name).ok_or(missing)?;
         values.push(value)?;
     }
     Ok(values)
@@ -112,13 +115,15 @@ pub(crate) fn arguments_named(
     requires { AnswersExist func.now answers.now }
     ensures passed { IfOk result (λ args.
         map (argument_of func.now answers.now) names.now ≡ map Some args) }
-    ensures misuse { result ≡ Err CallError.Misuse → all_values func.now answers.now names.now ≡ false }
+    ensures misuse { (why : Condition) → result ≡ Err (CallError.Misuse why)
+        → all_values func.now answers.now names.now ≡ false }
     ensures never_full { result ≢ Err CallError.Full }
-    ensures never_refused { result ≢ Err CallError.Refused }
+    ensures never_refused { (why : Condition) → result ≢ Err (CallError.Refused why) }
 {
     let mut args = BlockArgs::new(func.allocator());
     for name in names.iter() {
-        let value = value_named(func, answers, *name).ok_or(CallError::Misuse)?;
+        let missing = CallError::Misuse(Condition::NoValue(*name));
+        let value = value_named(func, answers, *name).ok_or(missing)?;
         args.push(BlockArg::Value(value))?;
     }
     Ok(args)
@@ -139,6 +144,14 @@ fn argument_passed(func: &Function, answers: &[Answer], passed: Passed) -> Optio
     }
 }
 
+// That what an edge of a table passes leads to no value: only a name of a value may.
+fn no_value(passed: Passed) -> Condition {
+    match passed {
+        Passed::Value(name) => Condition::NoValue(name),
+        Passed::Returned(_) | Passed::Thrown(_) => Condition::NoEntry,
+    }
+}
+
 // What an edge of a table passes, with what its names lead to.
 pub(crate) fn passed_named(
     func: &Function,
@@ -148,14 +161,15 @@ pub(crate) fn passed_named(
     requires { AnswersExist func.now answers.now }
     ensures passed { IfOk result (λ made.
         map (passed_in func.now answers.now) args.now ≡ map Some made) }
-    ensures misuse { result ≡ Err CallError.Misuse →
-        all_passed func.now answers.now args.now ≡ false }
+    ensures misuse { (why : Condition) → result ≡ Err (CallError.Misuse why)
+        → all_passed func.now answers.now args.now ≡ false }
     ensures never_full { result ≢ Err CallError.Full }
-    ensures never_refused { result ≢ Err CallError.Refused }
+    ensures never_refused { (why : Condition) → result ≢ Err (CallError.Refused why) }
 {
     let mut made = BlockArgs::new(func.allocator());
     for one in args.iter() {
-        let arg = argument_passed(func, answers, *one).ok_or(CallError::Misuse)?;
+        let missing = CallError::Misuse(no_value(*one));
+        let arg = argument_passed(func, answers, *one).ok_or(missing)?;
         made.push(arg)?;
     }
     Ok(made)
@@ -172,10 +186,10 @@ pub(crate) fn edge_named(
         (may_lead builder.now answers.now edge.now) result }
 {
     let Some(block) = block_named(answers, edge.block) else {
-        return Err(CallError::Misuse);
+        return Err(CallError::Misuse(Condition::NoBlock(edge.block)));
     };
     if !may_seal(builder, block) {
-        return Err(CallError::Misuse);
+        return Err(CallError::Misuse(Condition::Sealed(block)));
     }
     let args = arguments_named(builder.func(), answers, edge.args.as_slice())?;
     Ok(BlockCall { block, args })
@@ -188,7 +202,7 @@ pub(crate) fn one_value(func: &Function, answers: &[Answer], name: Name) -> Resu
         (all_values func.now answers.now (name ∷ [])) result }
 {
     let Some(x) = value_named(func, answers, name) else {
-        return Err(CallError::Misuse);
+        return Err(CallError::Misuse(Condition::NoValue(name)));
     };
     Ok(x)
 }
@@ -204,12 +218,12 @@ pub(crate) fn two_values(
         (λ pair. map (value_of func.now answers.now) names.now ≡ map Some (pair.0 ∷ pair.1 ∷ []))
         (all_values func.now answers.now names.now) result }
 {
-    let [x, y] = *names;
-    let Some(x) = value_named(func, answers, x) else {
-        return Err(CallError::Misuse);
+    let [first, second] = *names;
+    let Some(x) = value_named(func, answers, first) else {
+        return Err(CallError::Misuse(Condition::NoValue(first)));
     };
-    let Some(y) = value_named(func, answers, y) else {
-        return Err(CallError::Misuse);
+    let Some(y) = value_named(func, answers, second) else {
+        return Err(CallError::Misuse(Condition::NoValue(second)));
     };
     Ok((x, y))
 }
@@ -226,15 +240,15 @@ pub(crate) fn three_values(
         ≡ map Some (three.0 ∷ three.1 ∷ three.2 ∷ []))
         (all_values func.now answers.now names.now) result }
 {
-    let [x, y, z] = *names;
-    let Some(x) = value_named(func, answers, x) else {
-        return Err(CallError::Misuse);
+    let [first, second, third] = *names;
+    let Some(x) = value_named(func, answers, first) else {
+        return Err(CallError::Misuse(Condition::NoValue(first)));
     };
-    let Some(y) = value_named(func, answers, y) else {
-        return Err(CallError::Misuse);
+    let Some(y) = value_named(func, answers, second) else {
+        return Err(CallError::Misuse(Condition::NoValue(second)));
     };
-    let Some(z) = value_named(func, answers, z) else {
-        return Err(CallError::Misuse);
+    let Some(z) = value_named(func, answers, third) else {
+        return Err(CallError::Misuse(Condition::NoValue(third)));
     };
     Ok((x, y, z))
 }

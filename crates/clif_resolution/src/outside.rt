@@ -5,7 +5,8 @@ ghost use Rattle.clif_resolution.specs.Answers.{Finds, AnswersExist, all_values}
 ghost use Rattle.clif_resolution.specs.Callings.{IsOutsideShape, can_call, has_called};
 
 use crate::answers::{Answer, CallError};
-use crate::conditions::has_current;
+use crate::condition::Condition;
+use crate::conditions::{current_fault, has_current};
 use crate::entries::{function_named, signature_named};
 use crate::names::values_named;
 use clif_builder::FunctionBuilder;
@@ -27,11 +28,11 @@ pub fn outside_call_found(
         (can_call builder.now answers.now called.now) result }
 {
     if !has_current(builder) {
-        return Err(CallError::Misuse);
+        return Err(CallError::Misuse(current_fault(builder)));
     }
     let shape = shaped(builder.func(), answers, called)?;
     if !builder.func().has_entries(&shape) {
-        return Err(CallError::Misuse);
+        return Err(CallError::Misuse(Condition::NoEntry));
     }
     Ok(shape)
 }
@@ -52,13 +53,13 @@ fn shaped(
     match called {
         OutsideCall::Call { function, .. } => {
             let Some(func_ref) = function_named(answers, *function) else {
-                return Err(CallError::Misuse);
+                return Err(CallError::Misuse(Condition::NoFunction(*function)));
             };
             Ok(InstructionData::Call { func_ref, args })
         }
         OutsideCall::CallIndirect { signature, .. } => {
             let Some(sig_ref) = signature_named(answers, *signature) else {
-                return Err(CallError::Misuse);
+                return Err(CallError::Misuse(Condition::NoSignature(*signature)));
             };
             Ok(InstructionData::CallIndirect { sig_ref, args })
         }

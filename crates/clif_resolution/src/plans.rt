@@ -8,7 +8,8 @@ ghost use Rattle.clif_resolution.specs.Entries.{Numbers};
 ghost use Rattle.clif_resolution.specs.Plans.{FindsPlan, IsPlanned, ValuesExist, can_make, operation_in};
 
 use crate::answers::{Answer, CallError};
-use crate::conditions::has_current;
+use crate::condition::Condition;
+use crate::conditions::{current_fault, has_current};
 use crate::entries::stack_slot_named;
 use crate::names::{edge_named, one_value, three_values, two_edges, two_values, values_named};
 use clif_builder::FunctionBuilder;
@@ -45,14 +46,15 @@ pub fn plan_found(
         (can_make builder.now answers.now plan.now) result }
 {
     if !has_current(builder) {
-        return Err(CallError::Misuse);
+        return Err(CallError::Misuse(current_fault(builder)));
     }
     let planned = shaped(builder, answers, plan)?;
     if !can_operate(plan, planned.ty) {
-        return Err(CallError::Misuse);
+        let opcode = planned.shape.opcode();
+        return Err(CallError::Misuse(Condition::MadeAt(opcode, planned.ty)));
     }
     if !builder.func().has_entries(&planned.shape) {
-        return Err(CallError::Misuse);
+        return Err(CallError::Misuse(Condition::NoEntry));
     }
     Ok(planned)
 }
@@ -67,7 +69,7 @@ fn can_operate(plan: &Plan<'_>, ty: Type) -> bool
         Plan::Concat { .. } => Demand::ADoubled.is_met(ty),
         Plan::Split { .. } => Demand::AHalved.is_met(ty),
         Plan::Load { .. } => ty.is_valid(),
-        Plan::StackLoad { opcode, .. } => Opcode::Stack(*opcode).typing().demand.is_met(ty),
+        Plan::StackLoad { .. } => ty.is_valid(),
         _ => true,
     }
 }
@@ -290,7 +292,7 @@ fn at_slot(
     ensures { FindsPlan builder.now answers.now (Plan.StackLoad opcode ty name offset) result }
 {
     let Some(slot) = stack_slot_named(answers, name) else {
-        return Err(CallError::Misuse);
+        return Err(CallError::Misuse(Condition::NoSlot(name)));
     };
     let shape = InstructionData::StackLoad {
         opcode,
@@ -313,7 +315,7 @@ fn stack_store(
     ensures { FindsPlan builder.now answers.now (Plan.StackStore arg name offset) result }
 {
     let Some(slot) = stack_slot_named(answers, name) else {
-        return Err(CallError::Misuse);
+        return Err(CallError::Misuse(Condition::NoSlot(name)));
     };
     let arg = one_value(builder.func(), answers, arg)?;
     Ok(untyped(InstructionData::StackStore { arg, slot, offset }))

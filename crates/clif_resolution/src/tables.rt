@@ -5,7 +5,8 @@ ghost use Rattle.clif_resolution.specs.Answers.{Finds, AnswersExist, edge_at};
 ghost use Rattle.clif_resolution.specs.Conditions.{IsEdge, has_edge, serves};
 
 use crate::answers::{Answer, CallError};
-use crate::conditions::are_open;
+use crate::condition::Condition;
+use crate::conditions::{are_open, sealed_target};
 use crate::names::{block_named, edge_answered, passed_named};
 use clif_builder::FunctionBuilder;
 use clif_calls::{Name, TableEdge};
@@ -28,7 +29,7 @@ pub fn edge_found(
         (has_edge builder.now answers.now edge.now) result }
 {
     let Some(block) = block_named(answers, edge.block) else {
-        return Err(CallError::Misuse);
+        return Err(CallError::Misuse(Condition::NoBlock(edge.block)));
     };
     let args = passed_named(builder.func(), answers, edge.args.as_slice())?;
     Ok(BlockCall { block, args })
@@ -44,7 +45,7 @@ pub fn edge_copied(alloc: Global, answers: &[Answer], name: Name) -> Result<Bloc
         (is_some (edge_at answers.now name)) result }
 {
     let Some(edge) = edge_answered(answers, name) else {
-        return Err(CallError::Misuse);
+        return Err(CallError::Misuse(Condition::NoEdge(name)));
     };
     let made = BlockCall::new(alloc, edge.block, edge.args.as_slice())?;
     Ok(made)
@@ -62,10 +63,10 @@ pub fn edges_copied(
 ) -> Result<Vec<BlockCall>, CallError>
     ensures edges { IfOk result (λ made.
         map (edge_at answers.now) names.now ≡ map Some made.items) }
-    ensures misuse { result ≡ Err CallError.Misuse →
-        list_all (λ name. is_some (edge_at answers.now name)) names.now ≡ false }
+    ensures misuse { (why : Condition) → result ≡ Err (CallError.Misuse why)
+        → list_all (λ name. is_some (edge_at answers.now name)) names.now ≡ false }
     ensures never_full { result ≢ Err CallError.Full }
-    ensures never_refused { result ≢ Err CallError.Refused }
+    ensures never_refused { (why : Condition) → result ≢ Err (CallError.Refused why) }
 {
     let mut edges = Vec::new(alloc);
     for name in names.iter() {
@@ -83,4 +84,13 @@ pub fn may_serve(builder: &FunctionBuilder<'_>, table: JumpTable) -> bool
         None => false,
         Some(edges) => are_open(builder, edges.all_branches()),
     }
+}
+
+/// Why a table may serve no branch: it serves one, or a target of its edges is sealed.
+pub fn serving_fault(builder: &FunctionBuilder<'_>, table: JumpTable) -> Condition {
+    let sealed = match builder.func().tables().jump_table(table) {
+        None => None,
+        Some(edges) => sealed_target(builder, edges.all_branches()),
+    };
+    sealed.unwrap_or(Condition::TableServed(table))
 }

@@ -5,8 +5,8 @@ ghost use Rattle.std.specs.Prelude.{◌<◌, IfOk};
 use crate::command::Run;
 use crate::program::{Notes, tell_call, tell_no_text, tell_refused, tell_unbuilt, tell_unread};
 use clif_builder::FunctionBuilderContext;
-use clif_conditions::block_numbers;
-use clif_replay::{ReplayError, replay};
+use clif_replay::{ReplayError, ReplayNotes, replay_noted};
+use clif_resolution::Condition;
 use clif_runs::{
     ArgumentError, Comparison, Given, Numbering, Options, Report, Verdict, arguments_of, compare,
 };
@@ -110,9 +110,10 @@ fn execute_script<O: io::Write, E: io::Write>(
             write!(err, "{notes}")?;
             tell_runs(&both, script.signature.returns.as_slice(), out, err)
         }
-        Err(Unrun::Unbuilt(error)) => tell_unbuilt(
+        Err(Unrun::Unbuilt(error, condition)) => tell_unbuilt(
             alloc,
             error,
+            condition,
             text,
             script.lines.as_slice(),
             err,
@@ -126,19 +127,14 @@ fn execute_script<O: io::Write, E: io::Write>(
 #[derive(Drop)]
 enum Unrun {
     Memory,
-    Unbuilt(ReplayError),
+    // and the condition that doesn't hold, if that is why
+    Unbuilt(ReplayError, Option<Condition>),
     Cannot(RunError),
 }
 
 impl From<AllocError> for Unrun {
     fn from(_error: AllocError) -> Unrun {
         Unrun::Memory
-    }
-}
-
-impl From<ReplayError> for Unrun {
-    fn from(error: ReplayError) -> Unrun {
-        Unrun::Unbuilt(error)
     }
 }
 
@@ -152,7 +148,7 @@ impl From<RunError> for Unrun {
 #[derive(Drop)]
 struct Both {
     runs: Comparison,
-    // the numbers in the function of the script's blocks, if these are shown
+    // the numbers in the function of the script's blocks
     numbers: Vec<usize>,
 }
 
@@ -168,7 +164,11 @@ fn both_run(
     let signature = script.signature.clone()?;
     let calls = script.calls.as_slice();
     let config = script.config;
-    let func = replay(alloc, calls, name, signature, &mut ctx, config)?;
+    let mut told = ReplayNotes::new(alloc);
+    let func = match replay_noted(alloc, calls, name, signature, &mut ctx, config, &mut told) {
+        Ok(func) => func,
+        Err(error) => return Err(Unrun::Unbuilt(error, told.condition)),
+    };
     let given = Given {
         arguments,
         answers: script.answers.as_slice(),
@@ -176,13 +176,12 @@ fn both_run(
         pointer_width: config.pointer_width,
         options,
     };
-    let numbers = if options.is_traced {
-        block_numbers(alloc, calls, &script.signature, config)?
-    } else {
-        Vec::new(alloc)
-    };
     let runs = compare(alloc, calls, &script.signature, &func, &given)?;
-    Ok(Both { runs, numbers })
+    let ReplayNotes { blocks, .. } = told;
+    Ok(Both {
+        runs,
+        numbers: blocks,
+    })
 }
 
 // Prints what both runs show, and tells it where they aren't equal.

@@ -3,6 +3,7 @@
 #![tactic(auto)]
 
 mod command;
+mod constants;
 mod execution;
 mod helper_rows;
 mod program;
@@ -14,9 +15,9 @@ pub use clif_calls::{
     Call, Edge, EntryCall, MemoryCall, Name, OutsideAnswer, OutsideCall, Passed, PlainInstruction,
     Plan, SwitchEntry, TableEdge, TableItem, ThrowingCall,
 };
-pub use clif_conditions::{Condition, broken_condition};
 pub use clif_graph::Graph;
-pub use clif_replay::{ReplayError, replay};
+pub use clif_replay::{ReplayError, ReplayNotes, replay, replay_noted};
+pub use clif_resolution::Condition;
 pub use clif_runs::Options;
 pub use clif_worlds::STEPS;
 pub use command::{Command, Run, USAGE};

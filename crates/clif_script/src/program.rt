@@ -2,13 +2,14 @@
 ghost use Rattle.std.specs.Prelude.{◌≡◌, ◌<◌, IfOk, OnOk};
 ghost use Rattle.clif_script.specs.Program.{HasTypesAs, IsAccepted, MakesFunction};
 
+use crate::constants::cut_constant;
 use clif_builder::FunctionBuilderContext;
 use clif_calls::{Call, Name};
 use clif_check::{CheckError, check};
-use clif_conditions::{Condition, broken_condition, cut_constant};
 use clif_graph::Graph;
 use clif_ir::Function;
-use clif_replay::{ReplayError, replay};
+use clif_replay::{ReplayError, ReplayNotes, replay_noted};
+use clif_resolution::Condition;
 use clif_text::{Expected, Fault, Hint, ReadError, Script, explain, read};
 use clif_type_messages::type_message;
 use clif_words::words::words_of;
@@ -194,9 +195,18 @@ fn build_script<O: io::Write, E: io::Write>(
         calls: calls.as_slice(),
         lines: lines.as_slice(),
     };
-    let func = match replay(alloc, notes.calls, name, signature, &mut ctx, config) {
+    let mut told = ReplayNotes::new(alloc);
+    let func = match replay_noted(
+        alloc,
+        notes.calls,
+        name,
+        signature,
+        &mut ctx,
+        config,
+        &mut told,
+    ) {
         Ok(func) => func,
-        Err(error) => return tell_unbuilt(alloc, error, text, notes.lines, err),
+        Err(error) => return tell_unbuilt(alloc, error, told.condition, text, notes.lines, err),
     };
     show(alloc, &func, printing, &notes, out, err)
 }
@@ -279,10 +289,11 @@ impl fmt::Display for Notes<'_> {
     }
 }
 
-// Tells why a function couldn't be built, and the line of the call.
+// Tells why a function couldn't be built, and the line of the call, with the condition that doesn't hold.
 pub(crate) fn tell_unbuilt<E: io::Write>(
     alloc: Global,
     error: ReplayError,
+    condition: Option<Condition>,
     text: &str,
     lines: &[usize],
     err: &mut E,
@@ -292,23 +303,23 @@ pub(crate) fn tell_unbuilt<E: io::Write>(
     writeln!(err, "{error}")?;
     match error {
         ReplayError::Misuse(place) | ReplayError::Refused(place) => {
-            tell_condition(alloc, place, text, lines, err)?;
+            tell_condition(alloc, place, condition, text, lines, err)?;
         }
         ReplayError::Memory | ReplayError::Full => {}
     }
     Ok(1)
 }
 
-// Tells the line of a misused or refused call, or that it is the end, and which condition doesn't hold. The script is read
-// once more for that; if memory is refused, the line alone is told.
+// Tells the line of a misused or refused call, or that it is the end, and which condition doesn't hold.
 fn tell_condition<E: io::Write>(
     alloc: Global,
     place: usize,
+    condition: Option<Condition>,
     text: &str,
     lines: &[usize],
     err: &mut E,
 ) -> io::Result<()> {
-    let Some(condition) = condition_of(alloc, text, place) else {
+    let Some(condition) = condition else {
         return tell_call(place, text, lines, err);
     };
     let Some(number) = lines.get(place) else {
@@ -369,18 +380,6 @@ fn variable_named<'a>(
         }
     }
     Ok(named)
-}
-
-// The condition of a call of a script that doesn't hold.
-fn condition_of(alloc: Global, text: &str, place: usize) -> Option<Condition> {
-    let Ok(script) = read(alloc, text) else {
-        return None;
-    };
-    let calls = script.calls.as_slice();
-    match broken_condition(alloc, calls, &script.signature, script.config, place) {
-        Ok(condition) => condition,
-        Err(_) => None,
-    }
 }
 
 // Tells the line of the call at a place.

@@ -10,7 +10,7 @@ use crate::support::{function_of, parts, script_of};
 use crate::{parameters, placements, refusals, tables};
 use clif_builder::FunctionBuilderContext;
 use clif_ir::Function;
-use clif_script::{Call, ReplayError, broken_condition, replay};
+use clif_script::{Call, ReplayError, ReplayNotes, replay_noted};
 use clif_text::Script;
 use clif_types::Type;
 use std::alloc::{AllocError, Global};
@@ -54,20 +54,25 @@ const REPLAYS: &[&[&str]] = &[
     tables::REPLAYS,
 ];
 
-// By what the calls alone tell, a condition doesn't hold of the call at this place, or of the end, and all conditions before
-// it do; where there is no place, all conditions hold.
-fn tells_condition(
-    rt: &impl Abort,
-    alloc: Global,
-    script: &Script,
-    stopped: Option<usize>,
-) -> Result<(), Fail> {
-    let calls = script.calls.as_slice();
-    let last = stopped.unwrap_or(calls.len());
-    for place in 0..last.saturating_add(1) {
-        let broken = broken_condition(alloc, calls, &script.signature, script.config, place)?;
-        assert!(rt; broken.is_some() == (stopped == Some(place)), "at {place}");
+// The place of a call that was misused or refused, or of the end that was.
+fn place_of(error: ReplayError) -> Option<usize> {
+    match error {
+        ReplayError::Misuse(place) | ReplayError::Refused(place) => Some(place),
+        ReplayError::Memory | ReplayError::Full => None,
     }
+}
+
+// The notes tell a condition where a call, or the end, was misused or refused, and nowhere else; and they count the instructions
+// after each call before it.
+fn tells_condition(rt: &impl Abort, alloc: Global, script: &Script) -> Result<(), Fail> {
+    let mut ctx = FunctionBuilderContext::new(alloc);
+    let mut notes = ReplayNotes::new(alloc);
+    let stopped = replayed(alloc, script, &mut ctx, &mut notes)?
+        .err()
+        .and_then(place_of);
+    assert_eq!(rt; notes.condition.is_some(), stopped.is_some());
+    let made = stopped.unwrap_or(script.calls.len());
+    assert_eq!(rt; notes.inst_counts.len(), made);
     Ok(())
 }
 
@@ -76,6 +81,7 @@ fn replayed(
     alloc: Global,
     script: &Script,
     ctx: &mut FunctionBuilderContext,
+    notes: &mut ReplayNotes,
 ) -> Result<Result<Function, ReplayError>, AllocError>
     requires { ctx.old ≡ empty_context }
     ensures { ctx.new ≡ empty_context }
@@ -83,7 +89,7 @@ fn replayed(
     let name = script.name.clone()?;
     let signature = script.signature.clone()?;
     let calls = script.calls.as_slice();
-    Ok(replay(alloc, calls, name, signature, ctx, script.config))
+    Ok(replay_noted(alloc, calls, name, signature, ctx, script.config, notes))
 }
 
 // A function or an error has this text; where memory was refused the test itself fails.
@@ -113,7 +119,8 @@ fn gives(
     requires { ctx.old ≡ empty_context }
     ensures { ctx.new ≡ empty_context }
 {
-    let answer = replayed(alloc, script, ctx)?;
+    let mut notes = ReplayNotes::new(alloc);
+    let answer = replayed(alloc, script, ctx, &mut notes)?;
     assert!(rt; ctx.is_empty());
     has_text(rt, alloc, answer, expected)
 }
@@ -130,16 +137,6 @@ fn both_give(
     gives(rt, alloc, second.0, &mut ctx, second.1)
 }
 
-// The place of the call that is misused or refused, if one is.
-fn stopped(alloc: Global, script: &Script) -> Result<Option<usize>, Fail> {
-    let mut ctx = FunctionBuilderContext::new(alloc);
-    let error = replayed(alloc, script, &mut ctx)?.err();
-    Ok(match error {
-        Some(ReplayError::Misuse(place) | ReplayError::Refused(place)) => Some(place),
-        _ => None,
-    })
-}
-
 // The calls give this, and again with the same context, with which a script without calls gives its function, too.
 fn replays(
     rt: &impl Abort,
@@ -150,7 +147,7 @@ fn replays(
 ) -> Result<(), Fail> {
     both_give(rt, alloc, (script, expected), (script, expected))?;
     both_give(rt, alloc, (script, expected), (empty, EMPTY_TEXT))?;
-    tells_condition(rt, alloc, script, stopped(alloc, script)?)
+    tells_condition(rt, alloc, script)
 }
 
 // The same of the script before `=>`.

@@ -11,9 +11,9 @@ use crate::function::Compiler;
 use crate::parser::Parser;
 use crate::tokens::{Token, tokens_of};
 use clif_calls::{Call, OutsideAnswer};
-use clif_conditions::{Condition, broken_condition};
 use clif_ir::Function;
-use clif_replay::{ReplayError, replay};
+use clif_replay::{ReplayError, ReplayNotes, replay, replay_noted};
+use clif_resolution::Condition;
 use clif_types::types::I64;
 use clif_types::{AbiParam, CallConv, PointerWidth, Signature, TargetFrontendConfig, UserFuncName};
 use cranelift_frontend::FunctionBuilderContext;
@@ -216,15 +216,22 @@ impl CompiledFunction<'_> {
         Ok(replay(alloc, calls, name, signature, &mut ctx, TARGET)?)
     }
 
-    /// Why the function wasn't built, where a call was a misuse or refused: the condition that doesn't hold, by what the calls
-    /// alone tell. There is none after another error, or where memory is refused.
+    /// Why the function wasn't built, where a call was a misuse or refused: the condition that doesn't hold. It is built once
+    /// more for that. There is none after another error, or where memory is refused.
     pub fn broken_condition(&self, alloc: Global, error: ToyError<'_>) -> Option<Condition> {
-        let place = match error {
-            ToyError::Unbuilt(ReplayError::Misuse(place) | ReplayError::Refused(place)) => place,
+        match error {
+            ToyError::Unbuilt(ReplayError::Misuse(_) | ReplayError::Refused(_)) => {}
             _ => return None,
-        };
+        }
         let signature = signature_of(alloc, self.parameters).ok()?;
-        broken_condition(alloc, self.calls.as_slice(), &signature, TARGET, place).ok()?
+        let name = UserFuncName::user(0, 0);
+        let mut ctx = FunctionBuilderContext::new(alloc);
+        let mut notes = ReplayNotes::new(alloc);
+        let calls = self.calls.as_slice();
+        match replay_noted(alloc, calls, name, signature, &mut ctx, TARGET, &mut notes) {
+            Ok(_) => None,
+            Err(_) => notes.condition,
+        }
     }
 
     /// Tells an error of this function: a line, and where a condition doesn't hold a second one, as `gcd: block1 is

@@ -28,6 +28,9 @@ returns-in_default-type_of c = made-misuse c.args.builder.now c.args.answers.now
 pub may_define-requires : goal.may_define-requires
 may_define-requires c = value-exists c.requires.sound.calls c.args.builder.now c.args.answers.now c.requires.sound.ready c.args.name c.in-Some.value (ap (λ (f : Body). value_of f c.args.answers.now c.args.name) (sym c.func.ensures) ∙ sym c.value_named.ensures ∙ c.in-Some.is)
 
+pub define_fault-requires : goal.define_fault-requires
+define_fault-requires c = value-exists c.requires.sound.calls c.args.builder.now c.args.answers.now c.requires.sound.ready c.args.name c.in-Some.value (ap (λ (f : Body). value_of f c.args.answers.now c.args.name) (sym c.func.ensures) ∙ sym c.value_named.ensures ∙ c.in-Some.is)
+
 pub returns-then-not-may_define : goal.returns-then-not-may_define
 returns-then-not-may_define c = made-misuse c.args.builder.now c.args.answers.now (λ naming declared calls ready. Conditions.define-some calls c.args.builder.now c.args.answers.now ready c.args.variable c.args.name c.in-Some.value c.in-Some-type_of.ty (ap (λ (f : Body). value_of f c.args.answers.now c.args.name) (sym c.func.ensures) ∙ sym c.value_named.ensures ∙ c.in-Some.is) (ap (λ (types : List «Type»). slice_get types c.args.variable) (sym c.requires.types) ∙ sym c.type_of.ensures ∙ c.in-Some-type_of.is) ∙ sym c.may_define.ensures ∙ c.if-not-may_define.true)
 

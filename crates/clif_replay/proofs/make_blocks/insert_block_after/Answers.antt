@@ -25,6 +25,9 @@ may_insert-requires-clause-after c = block-there c.requires.calls c.args.builder
 pub returns-then-not-may_insert : goal.returns-then-not-may_insert
 returns-then-not-may_insert c = made-misuse c.args.builder.now c.args.answers.now (λ naming declared calls ready. insert-some calls c.args.builder.now c.args.answers.now ready c.args.name c.args.behind c.in-Some.block c.in-Some-block_named.after (sym c.block_named.ensures ∙ c.in-Some.is) (sym c.block_named-2.ensures ∙ c.in-Some-block_named.is) ∙ sym c.may_insert.ensures ∙ c.if-not-may_insert.true)
 
+pub insert_fault-requires : goal.insert_fault-requires
+insert_fault-requires c = block-there c.requires.calls c.args.builder.now c.args.answers.now c.requires.ready c.args.name c.in-Some.block (sym c.block_named.ensures ∙ c.in-Some.is)
+
 pub insert_block_after-requires-clause-exists : goal.insert_block_after-requires-clause-exists
 insert_block_after-requires-clause-exists c = block-there c.requires.calls c.args.builder.now c.args.answers.now c.requires.ready c.args.name c.in-Some.block (sym c.block_named.ensures ∙ c.in-Some.is)
 

@@ -43,10 +43,10 @@ returns-in_err-items c =
     let done = c.items_found.ensures in
     numbered (λ numbers naming declared ledger. MakeExceptionTable (numbers Signatures c.args.signature) (naming c.args.normal) (map (item_of naming) c.args.items.now)) c.args.builder.now b answers c.from_residual-in_err-items.result
     (made-missed b answers c.items_found.result c.from_residual-in_err-items.result c.in_err-items.field-0.0 c.in_err-items.was (p.1 ∙ ap Err p.2)
-    (λ misuse naming declared calls ready.
+    (λ why misuse naming declared calls ready.
     exceptions-same calls b answers ready (numbers_at b.func.now answers Signatures c.args.signature) c.args.normal c.args.items.now
     ∙ and_left _ (nat_lt (numbers_at b.func.now answers Signatures c.args.signature) (length b.func.now.tables.signatures)) (and_right (is_some (edge_at answers c.args.normal)) _
-    (ap (λ (f : Body). all_items f answers c.args.items.now) (sym c.func-2.ensures) ∙ done.misuse misuse)))
+    (ap (λ (f : Body). all_items f answers c.args.items.now) (sym c.func-2.ensures) ∙ done.misuse why misuse)))
     done.never_refused done.never_full)
 
 pub returns-in_default : goal.returns-in_default
@@ -54,7 +54,7 @@ returns-in_default c =
     let b = c.args.builder.now in
     let answers = c.args.answers.now in
     let none = number-missing b.func.now answers Signatures c.args.signature (sym c.signature_named.ensures ∙ c.in_default.is) in
-    numbered (λ numbers naming declared ledger. MakeExceptionTable (numbers Signatures c.args.signature) (naming c.args.normal) (map (item_of naming) c.args.items.now)) c.args.builder.now b answers (Err error.Misuse)
+    numbered (λ numbers naming declared ledger. MakeExceptionTable (numbers Signatures c.args.signature) (naming c.args.normal) (map (item_of naming) c.args.items.now)) c.args.builder.now b answers (Err (error.Misuse _))
     (made-misuse b answers (λ naming declared calls ready.
     exceptions-same calls b answers ready (numbers_at b.func.now answers Signatures c.args.signature) c.args.normal c.args.items.now
     ∙ and_right _ (nat_lt (numbers_at b.func.now answers Signatures c.args.signature) (length b.func.now.tables.signatures))
@@ -65,7 +65,7 @@ returns-then-not-has_signature c =
     let b = c.args.builder.now in
     let answers = c.args.answers.now in
     let is = number-found b.func.now answers Signatures c.args.signature c.in-Some.sig (sym c.signature_named.ensures ∙ c.in-Some.is) in
-    numbered (λ numbers naming declared ledger. MakeExceptionTable (numbers Signatures c.args.signature) (naming c.args.normal) (map (item_of naming) c.args.items.now)) c.args.builder.now b answers (Err error.Misuse)
+    numbered (λ numbers naming declared ledger. MakeExceptionTable (numbers Signatures c.args.signature) (naming c.args.normal) (map (item_of naming) c.args.items.now)) c.args.builder.now b answers (Err (error.Misuse _))
     (made-misuse b answers (λ naming declared calls ready.
     exceptions-same calls b answers ready (numbers_at b.func.now answers Signatures c.args.signature) c.args.normal c.args.items.now
     ∙ and_right _ (nat_lt (numbers_at b.func.now answers Signatures c.args.signature) (length b.func.now.tables.signatures))

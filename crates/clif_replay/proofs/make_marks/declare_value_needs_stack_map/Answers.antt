@@ -24,6 +24,11 @@ may_record-requires c =
     value-exists c.requires.calls c.args.builder.now c.args.answers.now c.requires.ready c.args.name c.in-Some.value
     (ap (λ (f : Body). value_of f c.args.answers.now c.args.name) (sym c.func.ensures) ∙ sym c.value_named.ensures ∙ c.in-Some.is)
 
+pub record_fault-requires : goal.record_fault-requires
+record_fault-requires c =
+    value-exists c.requires.calls c.args.builder.now c.args.answers.now c.requires.ready c.args.name c.in-Some.value
+    (ap (λ (f : Body). value_of f c.args.answers.now c.args.name) (sym c.func.ensures) ∙ sym c.value_named.ensures ∙ c.in-Some.is)
+
 pub returns-then-not-may_record : goal.returns-then-not-may_record
 returns-then-not-may_record c =
     made-misuse c.args.builder.now c.args.answers.now (λ naming declared calls ready. record-some calls c.args.builder.now c.args.answers.now ready c.args.name c.in-Some.value

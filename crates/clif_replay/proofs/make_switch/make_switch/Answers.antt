@@ -35,6 +35,11 @@ may_switch-requires c =
     value-exists c.requires.calls c.args.builder.now c.args.answers.now c.requires.ready c.args.value c.in-Some.val
     (ap (λ (f : Body). value_of f c.args.answers.now c.args.value) (sym c.func.ensures) ∙ sym c.value_named.ensures ∙ c.in-Some.is)
 
+pub switch_fault-requires : goal.switch_fault-requires
+switch_fault-requires c =
+    value-exists c.requires.calls c.args.builder.now c.args.answers.now c.requires.ready c.args.value c.in-Some.val
+    (ap (λ (f : Body). value_of f c.args.answers.now c.args.value) (sym c.func.ensures) ∙ sym c.value_named.ensures ∙ c.in-Some.is)
+
 pub returns-then-not-may_switch : goal.returns-then-not-may_switch
 returns-then-not-may_switch c =
     let b = c.args.builder.now in

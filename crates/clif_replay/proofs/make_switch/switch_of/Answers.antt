@@ -6,6 +6,7 @@ use Rattle.clif_types.specs.declared.error.BuildError.TheVariants.{Memory}
 use Rattle.clif_ranges.specs.declared.error.SwitchError.{SwitchError}
 use Rattle.clif_ranges.specs.declared.error.SwitchError.TheVariants as switch_error
 use Rattle.clif_calls.specs.declared.switch.SwitchEntry.{SwitchEntry}
+use Rattle.clif_resolution.specs.declared.condition.Condition.TheVariants as condition
 use Rattle.clif_replay.specs.Cases.{switch_told}
 use Rattle.clif_replay.proofs.SetEntries.{set-more, set-twice}
 use Rattle.clif_replay.proofs.make_switch.switch_of.Goals as goal
@@ -34,6 +35,7 @@ returns-in-Err-clause-err c =
     elim c.in-Err.ensures.only [
       | inl twice ↦
           inl (
+            condition.KeyTwice entry.key,
             c.told.ensures ∙ ap switch_told (same-error c.in-Err.error (switch_error.SetTwice entry.key) twice),
             set-twice c.args.answers.now c.args.entries.now c.loop-entry.entry-index none c.loop-entry-test.true c.loop-entry.switch c.loop-entry.invariant.cases (c.in-Err.ensures.twice.0 twice),
           )

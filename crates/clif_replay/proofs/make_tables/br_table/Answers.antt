@@ -21,7 +21,7 @@ use Rattle.clif_replay.proofs.make_tables.br_table.Goals as goal
 
 pub returns-then-not-has_current : goal.returns-then-not-has_current
 returns-then-not-has_current c =
-    numbered (λ numbers naming declared ledger. br_table ledger (naming c.args.index) (numbers JumpTables c.args.name)) c.args.builder.now c.args.builder.now c.args.answers.now (Err error.Misuse)
+    numbered (λ numbers naming declared ledger. br_table ledger (naming c.args.index) (numbers JumpTables c.args.name)) c.args.builder.now c.args.builder.now c.args.answers.now (Err (error.Misuse _))
     (made-misuse c.args.builder.now c.args.answers.now (λ naming declared calls ready.
     branch-same calls c.args.builder.now c.args.answers.now ready c.args.index _
     ∙ branch-closed c.args.builder.now _ _ (sym c.has_current.ensures ∙ c.if-not-has_current.true)))
@@ -34,7 +34,7 @@ value_named-requires c = λ i inside.
 pub returns-in_default : goal.returns-in_default
 returns-in_default c =
     let none = ap (λ (f : Body). value_of f c.args.answers.now c.args.index) (sym c.func.ensures) ∙ sym c.value_named.ensures ∙ c.in_default.is in
-    numbered (λ numbers naming declared ledger. br_table ledger (naming c.args.index) (numbers JumpTables c.args.name)) c.args.builder.now c.args.builder.now c.args.answers.now (Err error.Misuse)
+    numbered (λ numbers naming declared ledger. br_table ledger (naming c.args.index) (numbers JumpTables c.args.name)) c.args.builder.now c.args.builder.now c.args.answers.now (Err (error.Misuse _))
     (made-misuse c.args.builder.now c.args.answers.now (λ naming declared calls ready.
     branch-same calls c.args.builder.now c.args.answers.now ready c.args.index _ ∙ branch-missing c.args.builder.now _ _ none))
 
@@ -44,7 +44,7 @@ returns-in_default-jump_table_named c =
     let table : ℕ = (numbers_at c.args.builder.now.func.now c.args.answers.now JumpTables c.args.name) in
     let none : table ≡ length b.func.now.tables.jump_tables =
     number-missing b.func.now c.args.answers.now JumpTables c.args.name (sym c.jump_table_named.ensures ∙ c.in_default-jump_table_named.is) in
-    numbered (λ numbers naming declared ledger. br_table ledger (naming c.args.index) (numbers JumpTables c.args.name)) c.args.builder.now b c.args.answers.now (Err error.Misuse)
+    numbered (λ numbers naming declared ledger. br_table ledger (naming c.args.index) (numbers JumpTables c.args.name)) c.args.builder.now b c.args.answers.now (Err (error.Misuse _))
     (made-misuse b c.args.answers.now (λ naming declared calls ready.
     branch-same calls b c.args.answers.now ready c.args.index table
     ∙ and_right _ (serves b table) (ap (serves b) none ∙ none-serves b)))
@@ -53,7 +53,7 @@ pub returns-then-not-may_serve : goal.returns-then-not-may_serve
 returns-then-not-may_serve c =
     let b = c.args.builder.now in
     let is = number-found b.func.now c.args.answers.now JumpTables c.args.name c.in-Some-jump_table_named.table (sym c.jump_table_named.ensures ∙ c.in-Some-jump_table_named.is) in
-    numbered (λ numbers naming declared ledger. br_table ledger (naming c.args.index) (numbers JumpTables c.args.name)) c.args.builder.now b c.args.answers.now (Err error.Misuse)
+    numbered (λ numbers naming declared ledger. br_table ledger (naming c.args.index) (numbers JumpTables c.args.name)) c.args.builder.now b c.args.answers.now (Err (error.Misuse _))
     (made-misuse b c.args.answers.now (λ naming declared calls ready.
     branch-same calls b c.args.answers.now ready c.args.index (numbers_at c.args.builder.now.func.now c.args.answers.now JumpTables c.args.name)
     ∙ and_right _ (serves b (numbers_at c.args.builder.now.func.now c.args.answers.now JumpTables c.args.name)) (ap (serves b) is ∙ sym c.may_serve.ensures ∙ c.if-not-may_serve.true)))

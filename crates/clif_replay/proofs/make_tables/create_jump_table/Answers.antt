@@ -29,9 +29,9 @@ returns-in_err-entries c =
     let b = c.args.builder.now in
     let done = c.edges_copied.ensures in
     made-missed b c.args.answers.now c.edges_copied.result c.from_residual-in_err-entries.result c.in_err-entries.field-0.0 c.in_err-entries.was (p.1 ∙ ap Err p.2)
-    (λ misuse naming declared calls ready.
+    (λ why misuse naming declared calls ready.
     edges-same calls b c.args.answers.now ready (c.args.default ∷ c.args.entries.now)
-    ∙ and_right (is_some (edge_at c.args.answers.now c.args.default)) _ (done.misuse misuse))
+    ∙ and_right (is_some (edge_at c.args.answers.now c.args.default)) _ (done.misuse why misuse))
     done.never_refused done.never_full
 
 pub returns-in_err-made : goal.returns-in_err-made

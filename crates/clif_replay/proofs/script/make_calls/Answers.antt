@@ -220,7 +220,7 @@ returns-in-Err-clause-tried c = λ i told.
     let made = step c.args.config call c.loop-place.builder c.make_call.new.builder _ (Err c.in-Err.error) c.in-Err.ensures in
     let refusal = refusal-at c.in-Err.error c.loop-place.place i c.told_at.result c.told_at.ensures (same-refusal c.told_at.result i told) in
     refused-there c.args.calls.now c.loop-place.place i call (slice_get-get_or c.args.calls.now c.loop-place.place call c.loop-place-test.true ∙ ap Some (sym c.index-calls-place.is))
-    (made.refused (ap Err refusal.0)) refusal.1
+    (made.refused refusal.0 (ap Err refusal.1)) refusal.2
 
 pub returns-in-Err-clause-refused : goal.returns-in-Err-clause-refused
 returns-in-Err-clause-refused c = λ i told.

@@ -1,28 +1,21 @@
 //! The conditions of calls and of the end of a script, and how one that doesn't hold is told.
 use clif_calls::Name;
 use clif_opcodes::Opcode;
-use clif_types::{IntCC, Type};
+use clif_records::Variable;
+use clif_types::{Block, EntityRef, ExceptionTable, Inst, IntCC, JumpTable, Type, Value};
 use std::fmt;
 
-/// A condition that doesn't hold. Blocks have the numbers that the function's text gives them.
+/// A condition that doesn't hold. Blocks, values, instructions and tables have the numbers of the function.
 #[derive(Clone, Copy)]
 pub enum Condition {
     /// The name leads to no block.
     NoBlock(Name),
     /// The name leads to no value.
     NoValue(Name),
-    /// The value isn't an integer.
-    NoInteger(Name),
-    /// The value isn't a byte.
-    NoByte(Name),
     /// The name leads to no edge.
     NoEdge(Name),
     /// The name leads to no instruction.
     NoInst(Name),
-    /// No edge of the instruction leads to the block.
-    LeadsElsewhere(Name, usize),
-    /// The variable isn't declared.
-    NoVariable(usize),
     /// The name leads to no stack slot.
     NoSlot(Name),
     /// The name leads to no jump table.
@@ -33,31 +26,43 @@ pub enum Condition {
     NoSignature(Name),
     /// The name leads to no function.
     NoFunction(Name),
-    /// The jump table or the exception table serves another instruction.
-    Served(Name),
+    /// An entry that the instruction names wasn't made.
+    NoEntry,
+    /// The value isn't an integer.
+    NoInteger(Value),
+    /// The value isn't a byte.
+    NoByte(Value),
+    /// No edge of the instruction leads to the block.
+    LeadsElsewhere(Inst, Block),
+    /// The variable isn't declared.
+    NoVariable(Variable),
+    /// The jump table serves another instruction.
+    TableServed(JumpTable),
+    /// The exception table serves another instruction.
+    ExceptionsServed(ExceptionTable),
     /// No block is current.
     NoCurrent,
     /// The block has a terminator.
-    Filled(usize),
+    Filled(Block),
     /// The current block has no terminator yet, so it can't be left.
-    Unfilled(usize),
+    Unfilled(Block),
     /// The block is sealed.
-    Sealed(usize),
+    Sealed(Block),
     /// Something was made in the block.
-    Begun(usize),
+    Begun(Block),
     /// A branch leads to the block.
-    Reached(usize),
+    Reached(Block),
     /// The block is in the layout.
-    Placed(usize),
+    Placed(Block),
     /// The block isn't in the layout.
-    Unplaced(usize),
+    Unplaced(Block),
     /// No variable can have this type.
     VariableType(Type),
     /// The variable was used or assigned.
-    Touched(usize),
+    Touched(Variable),
     /// No stack map has room for a value of this type.
     NoRoom(Type),
-    /// The value doesn't have the variable's type.
+    /// The variable's type, and another one that the value has.
     AssignedType(Type, Type),
     /// The alignment of a stack slot is too great.
     Alignment(u8),
@@ -77,10 +82,14 @@ pub enum Condition {
     KeyTooWide(Type, u128),
     /// Too many keys of a switch follow one another for a jump table.
     TableTooLong,
-    /// The script ends, and the block isn't sealed.
-    Unsealed(usize),
-    /// The script ends, and the block has no terminator.
-    Unended(usize),
+    /// The end comes, and the block isn't sealed.
+    Unsealed(Block),
+    /// The end comes, and the block has no terminator.
+    Unended(Block),
+    /// The end comes, and the context of the try call is a value that stack maps need.
+    TrackedContext(Inst),
+    /// An earlier call failed.
+    Failed,
 }
 
 impl fmt::Display for Condition {
@@ -88,32 +97,32 @@ impl fmt::Display for Condition {
         match self {
             Condition::NoBlock(name) => write_name(f, *name, "block"),
             Condition::NoValue(name) => write_name(f, *name, "value"),
-            Condition::NoInteger(name) => write_name(f, *name, "integer"),
-            Condition::NoByte(name) => write_name(f, *name, "i8"),
             Condition::NoEdge(name) => write_name(f, *name, "block call"),
             Condition::NoInst(name) => write_name(f, *name, "instruction"),
-            Condition::LeadsElsewhere(Name { place, answer }, number) => {
-                write!(f, "${place}.{answer} doesn't lead to block{number}")
-            }
-            Condition::NoVariable(number) => write!(f, "var{number} isn't declared"),
             Condition::NoSlot(name) => write_name(f, *name, "stack slot"),
             Condition::NoTable(name) => write_name(f, *name, "jump table"),
             Condition::NoExceptions(name) => write_name(f, *name, "exception table"),
             Condition::NoSignature(name) => write_name(f, *name, "signature"),
             Condition::NoFunction(name) => write_name(f, *name, "function"),
-            Condition::Served(Name { place, answer }) => {
-                write!(f, "${place}.{answer} serves another instruction")
+            Condition::NoEntry => f.write_str("an entry that it names wasn't made"),
+            Condition::NoInteger(value) => write!(f, "{value} is no integer"),
+            Condition::NoByte(value) => write!(f, "{value} is no i8"),
+            Condition::LeadsElsewhere(inst, block) => {
+                write!(f, "{inst} doesn't lead to {block}")
             }
+            Condition::NoVariable(variable) => write_variable(f, *variable, "isn't declared"),
+            Condition::TableServed(table) => write!(f, "{table} serves another instruction"),
+            Condition::ExceptionsServed(table) => write!(f, "{table} serves another instruction"),
             Condition::NoCurrent => f.write_str("no block is current"),
-            Condition::Filled(number) => write_block(f, *number, "is filled"),
-            Condition::Unfilled(number) => write_block(f, *number, "isn't filled yet"),
-            Condition::Sealed(number) => write_block(f, *number, "is sealed"),
-            Condition::Begun(number) => write_block(f, *number, "isn't empty"),
-            Condition::Reached(number) => write_block(f, *number, "has a predecessor"),
-            Condition::Placed(number) => write_block(f, *number, "is in the layout"),
-            Condition::Unplaced(number) => write_block(f, *number, "isn't in the layout"),
+            Condition::Filled(block) => write!(f, "{block} is filled"),
+            Condition::Unfilled(block) => write!(f, "{block} isn't filled yet"),
+            Condition::Sealed(block) => write!(f, "{block} is sealed"),
+            Condition::Begun(block) => write!(f, "{block} isn't empty"),
+            Condition::Reached(block) => write!(f, "{block} has a predecessor"),
+            Condition::Placed(block) => write!(f, "{block} is in the layout"),
+            Condition::Unplaced(block) => write!(f, "{block} isn't in the layout"),
             Condition::VariableType(ty) => write!(f, "no variable can have type {ty}"),
-            Condition::Touched(number) => write!(f, "var{number} was used or assigned"),
+            Condition::Touched(variable) => write_variable(f, *variable, "was used or assigned"),
             Condition::NoRoom(ty) => write!(f, "no stack map has room for {ty}"),
             Condition::AssignedType(wanted, found) => {
                 write!(f, "the variable has type {wanted}, and the value {found}")
@@ -134,8 +143,12 @@ impl fmt::Display for Condition {
             Condition::KeyTwice(key) => write!(f, "the key {key} comes twice"),
             Condition::KeyTooWide(ty, key) => write!(f, "the key {key} is no number of type {ty}"),
             Condition::TableTooLong => f.write_str("2^32 keys follow one another"),
-            Condition::Unsealed(number) => write_block(f, *number, "isn't sealed"),
-            Condition::Unended(number) => write_block(f, *number, "isn't filled"),
+            Condition::Unsealed(block) => write!(f, "{block} isn't sealed"),
+            Condition::Unended(block) => write!(f, "{block} isn't filled"),
+            Condition::TrackedContext(inst) => {
+                write!(f, "the context of {inst} is a value that stack maps need")
+            }
+            Condition::Failed => f.write_str("an earlier call failed"),
         }
     }
 }
@@ -146,6 +159,11 @@ fn write_name<W: fmt::Write>(f: &mut fmt::Formatter<W>, name: Name, kind: &str) 
     write!(f, "${place}.{answer} is no {kind}")
 }
 
-fn write_block<W: fmt::Write>(f: &mut fmt::Formatter<W>, number: usize, is: &str) -> fmt::Result {
-    write!(f, "block{number} {is}")
+fn write_variable<W: fmt::Write>(
+    f: &mut fmt::Formatter<W>,
+    variable: Variable,
+    is: &str,
+) -> fmt::Result {
+    let number = variable.index();
+    write!(f, "var{number} {is}")
 }

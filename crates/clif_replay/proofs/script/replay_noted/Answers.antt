@@ -4,7 +4,7 @@ use Rattle.std.proofs.lemmas.Result.{err_from_is_err_and}
 use Rattle.clif_ir.specs.Body.{Body}
 use Rattle.clif_replay.specs.Replay.{ReplayMakes}
 use Rattle.clif_replay.proofs.Replays.{of-none, told-answer, told-as}
-use Rattle.clif_replay.proofs.script.replay.Goals as goal
+use Rattle.clif_replay.proofs.script.replay_noted.Goals as goal
 
 pub returns-in_err-build : goal.returns-in_err-build
 returns-in_err-build c =
