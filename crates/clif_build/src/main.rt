@@ -3,15 +3,15 @@
 //! and the function. Where the file is `-`, the script is read from standard input.
 #![tactic(auto)]
 
-use clif_command_line::{Question, bytes_of, words};
+use clif_command_line::{Question, bytes_of, tell_no_words, words};
 use clif_script::{Command, USAGE, build, execute};
 use std::io;
 use std::process::ExitCode;
 
 fn main(rt: HostRuntime) -> ExitCode {
-    let Ok(words) = words(&rt) else {
-        let _ = rt.eprintln("no memory");
-        return ExitCode::from(1);
+    let words = match words(&rt) {
+        Ok(words) => words,
+        Err(error) => return ExitCode::from(tell_no_words(&error, USAGE, &mut rt.stderr())),
     };
     if let Some(question) = Question::of(words.as_slice()) {
         let printed = rt.println(question.answer(USAGE));

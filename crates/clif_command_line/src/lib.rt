@@ -19,6 +19,17 @@ pub fn words<R: Env + AllocGlobal>(rt: &R) -> io::Result<Vec<String>> {
     Ok(words)
 }
 
+/// Tells a program's user why there are no [`words`], and answers the exit status: 1 where memory is refused, and 2 where a word
+/// isn't UTF-8, which is told as wrong arguments are.
+pub fn tell_no_words<E: io::Write>(error: &io::Error, wrong_arguments: &str, err: &mut E) -> u8 {
+    let (line, status) = match error.kind() {
+        io::ErrorKind::InvalidData => (wrong_arguments, 2),
+        _ => ("no memory", 1),
+    };
+    let _ = writeln!(err, "{line}");
+    status
+}
+
 /// The bytes of a file, or of standard input where the path is `-`.
 ///
 /// # Errors

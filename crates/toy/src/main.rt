@@ -2,15 +2,15 @@
 //! them. Where the file is `-`, the program is read from standard input.
 #![tactic(auto)]
 
-use clif_command_line::{Question, bytes_of, words};
+use clif_command_line::{Question, bytes_of, tell_no_words, words};
 use std::io;
 use std::process::ExitCode;
 use toy_runner::{Command, USAGE, execute};
 
 fn main(rt: HostRuntime) -> ExitCode {
-    let Ok(words) = words(&rt) else {
-        let _ = rt.eprintln("no memory");
-        return ExitCode::from(1);
+    let words = match words(&rt) {
+        Ok(words) => words,
+        Err(error) => return ExitCode::from(tell_no_words(&error, USAGE, &mut rt.stderr())),
     };
     if let Some(question) = Question::of(words.as_slice()) {
         let printed = rt.println(question.answer(USAGE));
