@@ -257,7 +257,8 @@ impl CompiledFunction<'_> {
     }
 }
 
-/// Prints each function of a program to `out`, with an empty line between two. Answers the exit status.
+/// Prints each function of a program to `out`, with an empty line between two, and nothing unless all were built. Answers the
+/// exit status.
 ///
 /// | Status | When |
 /// |---|---|
@@ -285,6 +286,7 @@ pub fn print<O: io::Write, E: io::Write>(
     }
 }
 
+// All functions are made into one text before anything is printed, so that nothing is where one is refused.
 fn print_functions<O: io::Write, E: io::Write>(
     alloc: Global,
     functions: &[CompiledFunction<'_>],
@@ -293,26 +295,32 @@ fn print_functions<O: io::Write, E: io::Write>(
 ) -> u8
     ensures { result < 3 }
 {
+    let mut text = String::new(alloc);
     for (index, function) in functions.iter().enumerate() {
         let gap = if index == 0 { "" } else { "\n" };
-        if let Err(error) = print_function(alloc, function, gap, out) {
+        if let Err(error) = add_function(alloc, function, gap, &mut text) {
             let _ = function.tell(alloc, error, err);
             return error.status();
         }
     }
+    if out.write_all(text.as_bytes()).is_err() {
+        let error = ToyError::Unwritten;
+        let _ = writeln!(err, "{error}");
+        return error.status();
+    }
     0
 }
 
-fn print_function<O: io::Write>(
+// Adds the text of a function, behind a gap.
+fn add_function(
     alloc: Global,
     function: &CompiledFunction<'_>,
     gap: &str,
-    out: &mut O,
+    text: &mut String,
 ) -> Result<(), ToyError<'static>> {
     let built = function.build(alloc)?;
     let shown = built.display();
-    match write!(out, "{gap}{shown}") {
-        Ok(()) => Ok(()),
-        Err(_) => Err(ToyError::Unwritten),
-    }
+    let shown = format!(in alloc; "{gap}{shown}")?;
+    text.push_str(shown.as_str())?;
+    Ok(())
 }
