@@ -272,11 +272,15 @@ fn checked(word: &str) -> Result<&str, LineError<'_>>
     }
 }
 
-// The lines of a text.
+// The lines of a text. They are pushed, since `collect` goes on where its first request is refused.
 fn lines_of(alloc: Global, text: &str) -> Result<Vec<&str>, AllocError>
     ensures { IfOk result (λ lines. texts lines.items ≡ script.lines_of text.now) }
 {
-    text.split('\n').collect(alloc)
+    let mut lines = Vec::new(alloc);
+    for line in text.split('\n') {
+        lines.push(line)?;
+    }
+    Ok(lines)
 }
 
 // A line that can't be read, and why.
