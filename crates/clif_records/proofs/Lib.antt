@@ -5,4 +5,5 @@ pub mod SparseSet
 pub mod Stacks
 pub mod Copying
 pub mod OnePage
+pub mod Places
 pub mod Linked

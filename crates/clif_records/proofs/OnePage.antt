@@ -1,10 +1,9 @@
 -- A value is recorded in blocks beside one another, whose cells are in one page.
 use Rattle.std.proofs.Common.{◌≡◌, ℕ, zero, suc, ◌≢◌, ◌+◌, ◌-◌, ◌/◌, ◌%◌, ◌<◌, ◌≤◌, inl, inr, List, [], ◌∷◌, ◌++◌, Some, Bool, true, false, cond, refl, ap, sym, ◌∙◌, subst, arith, length, take, drop}
-use Rattle.std.specs.Prelude.{◌==◌, is_some, slice_index, slice_index_or, if◌then◌else◌}
+use Rattle.std.specs.Prelude.{◌==◌, slice_index, slice_index_or, if◌then◌else◌}
 use Rattle.std.specs.Option.{unwrap_or}
 use Rattle.std.specs.FinMap as map
 use Rattle.std.specs.FinMap.{same_map}
-use Rattle.std.specs.HashMap.{HashMap, WritesThrough, get}
 use Rattle.std.specs.Map.{lookup}
 use Rattle.std.proofs.Math.Seq.{take-add, take-suc}
 use Rattle.std.proofs.lemmas.Bool.{cases_eq}
@@ -16,7 +15,7 @@ use Rattle.clif_records.specs.declared.tables.Cell.{Cell}
 use Rattle.clif_records.specs.Passed.{before_first}
 use Rattle.clif_records.specs.Tables.{RecordMap, lookups_at}
 use Rattle.clif_records.specs.Records.{recording, HasEntry, RecordsIn}
-use Rattle.clif_records.specs.Pages.{page_number, place_in_page, records_in, records_of, kept_at, added_by, empty_cell, is_nothing, recorded_in, ChangesCell, PutsRun}
+use Rattle.clif_records.specs.Pages.{page_number, place_in_page, records_of, kept_at, added_by, empty_cell, is_nothing, recorded_in, ChangesCell, PutsRun}
 use Rattle.clif_records.proofs.RecordMaps.{count_kept, in_order, same_place, value_changed}
 use Rattle.clif_records.proofs.Pages.{empty_page, entry_of, get-records_of, key_same, first_differs, len-after-at, page_changed, same_key, second_differs}
 use Rattle.clif_records.proofs.Copying.{before-all, records-further, records-more, records-none}
@@ -148,14 +147,6 @@ run-recorded old new x number value blocks page after added (suc k) inside of_pa
 
     more : (n m a b c : ℕ) → m ≡ n + a → c ≡ a + b → m + b ≡ n + c
     more n m a b c first second = omega (arith, first, second)
-
--- the page was there, and was changed in place
-pub run-written : {S : Type 0} (old new : HashMap (ℕ × ℕ) (List Cell) S) (x number value : ℕ) (blocks : List ℕ) (page after : List Cell) (added k : ℕ) → k ≤ length blocks
-    → ((j : ℕ) → j < k → page_number (slice_index blocks j) ≡ number)
-    → get same_key old (x, number) ≡ Some page → PutsRun blocks value page after added k → WritesThrough same_key (same_key (x, number)) old after new
-    → RecordsRun (records_in old) (records_in new) x value added (take k blocks)
-run-written old new x number value blocks page after added k inside of_page was puts wrote =
-    run-recorded old.entries new.entries x number value blocks page after added k inside of_page was puts (wrote.3 (ap is_some was)).0
 
 -- a block whose page may be a new one
 pub first-recorded : (old new : RecordMap) (x value c : ℕ) (blocks : List ℕ) → 0 < length blocks → c ≡ slice_index blocks 0 → HasEntry old new x c (recording value)

@@ -1,17 +1,18 @@
 -- What pages of cells say of a variable in a block, and what a changed cell makes of them.
-use Rattle.std.proofs.Common.{◌≡◌, ◌≢◌, ℕ, zero, suc, ◌+◌, ◌-◌, ◌*◌, ◌/◌, ◌%◌, ◌<◌, ◌⊎◌, inl, inr, List, [], ◌∷◌, Option, Some, None, Bool, true, false, cond, refl, ap, sym, ◌∙◌, subst, arith, length}
+use Rattle.std.proofs.Common.{◌≡◌, ◌≢◌, ℕ, zero, suc, ◌+◌, ◌*◌, ◌/◌, ◌%◌, ◌<◌, ◌⊎◌, inl, inr, List, [], ◌∷◌, Option, Some, None, Bool, true, false, cond, refl, ap, sym, ◌∙◌, subst, arith, length}
 use Rattle.std.specs.Prelude.{if◌then◌else◌, ◌==◌, ◌&&◌, not, is_some, slice_index_or, slice_set}
 use Rattle.std.specs.Ordering.{eq_by_cmp}
 use Rattle.std.specs.Option.{unwrap_or}
 use Rattle.std.specs.FinMap as map
 use Rattle.std.specs.FinMap.{get-insert, get-remove, get-empty, same_map, len-insert}
-use Rattle.std.specs.HashMap.{HashMap, WritesThrough, get}
+use Rattle.std.specs.HashMap.{HashMap, get}
 use Rattle.std.specs.Map.{lookup}
 use Rattle.std.proofs.lemmas.Grind.{common_steps}
 use Rattle.std.proofs.lemmas.Bool.{cases_eq}
 use Rattle.clif_records.specs.declared.tables.Cell.{Cell}
 use Rattle.clif_records.specs.Tables.{Recorded, RecordMap, variable_then_block, nothing_recorded, recorded_at}
 use Rattle.clif_records.specs.Records.{HasEntry}
+pub use Rattle.clif_records.specs.Pages.{same_key}
 use Rattle.clif_records.specs.Pages.{recorded_in, is_nothing, empty_cell, with_recorded_at, with_cells, records_of, records_in, kept_at, ChangesCell, added_by}
 use Rattle.clif_records.proofs.RecordMaps.{in_order, same_place, apart, itself, test_true, test_false}
 
@@ -71,10 +72,6 @@ unfolding records_of
 no_pages = refl
 
 -- ALL PAGES -------------------------------------------------------------------------------------------------------
-
--- two keys are equal where both numbers are
-abbrev pub same_key : ℕ × ℕ → ℕ × ℕ → Bool
-same_key p q = p.0 == q.0 && p.1 == q.1
 
 split : (b : ℕ) → 8 * (b / 8) + b % 8 ≡ b
 split b = omega arith
@@ -337,17 +334,7 @@ page_changed old new updated x b number place change page after is_number is_pla
     (λ q. found q ∙ ap (λ p. cond (same_key (x, number) q) (Some p) (lookup (same_key q) old)) changes.1)
     was changes.2 changes.3 changes.4 same
 
--- the page was there, and was changed in place
-pub page_written : {S : Type 0} (old new : HashMap (ℕ × ℕ) (List Cell) S) (x b number place : ℕ) (change : Recorded → Recorded) (page after : List Cell)
-    → number ≡ b / 8 → place ≡ b % 8
-    → get same_key old (x, number) ≡ Some page
-    → WritesThrough same_key (same_key (x, number)) old after new
-    → ChangesCell page after place change
-    → HasEntry (records_in old) (records_in new) x b change
-page_written old new x b number place change page after is_number is_place found wrote changes =
-    page_changed old.entries new.entries new.entries x b number place change page after is_number is_place (wrote.3 (ap is_some found)).0
-    (sym (ap (λ p. unwrap_or p empty_page) found)) changes refl
-
+-- how many records there are once a page that was there was changed in place
 pub len-written : {S : Type 0} (kept : HashMap (ℕ × ℕ) (List Cell) S) (new : RecordMap) (x b number place : ℕ) (change : Recorded → Recorded) (page : List Cell)
     → number ≡ b / 8 → place ≡ b % 8
     → get same_key kept (x, number) ≡ Some page → HasEntry (records_in kept) new x b change

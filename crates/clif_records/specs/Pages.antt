@@ -1,7 +1,7 @@
 -- How `src/tables.rt` keeps the records: in pages, each for a variable and eight blocks with numbers side by side. Source:
 -- own.
-use Rattle.std.specs.Prelude.{ℕ, zero, suc, ◌+◌, ◌-◌, ◌*◌, ◌/◌, ◌%◌, ◌^◌, ◌≡◌, ◌==◌, ◌&&◌, Bool, not, List, [], ◌∷◌, Option, Some, None, is_some, option_copied, slice_index, slice_index_or, slice_set, false, length, ◌<◌, if◌then◌else◌}
-use Rattle.std.specs.HashMap.{HashMap}
+use Rattle.std.specs.Prelude.{ℕ, zero, suc, ◌+◌, ◌-◌, ◌*◌, ◌/◌, ◌%◌, ◌^◌, ◌≡◌, ◌==◌, ◌&&◌, Bool, not, List, [], ◌∷◌, Option, Some, None, is_some, option_copied, slice_get, slice_index, slice_index_or, slice_set, false, length, ◌<◌, if◌then◌else◌}
+use Rattle.std.specs.HashMap.{HashMap, get}
 use Rattle.std.specs.FinMap as map
 use Rattle.clif_records.specs.Tables.{Recorded, RecordMap, nothing_recorded, recorded_at}
 use Rattle.clif_records.specs.Records.{recording}
@@ -48,6 +48,19 @@ records_of (page ∷ pages) = with_cells (records_of pages) page.0.0 (8 * page.0
 
 abbrev pub records_in : {S : Type 0} → HashMap (ℕ × ℕ) (List Cell) S → RecordMap
 records_in kept = records_of kept.entries
+
+-- two keys, each a variable and a page's number, are equal where both numbers are
+abbrev pub same_key : ℕ × ℕ → ℕ × ℕ → Bool
+same_key p q = p.0 == q.0 && p.1 == q.1
+
+-- the page of a variable with this number, if there is one
+abbrev pub page_in : {S : Type 0} → HashMap (ℕ × ℕ) (List Cell) S → ℕ → ℕ → Option (List Cell)
+page_in kept variable number = get same_key kept (variable, number)
+
+-- the page of a variable with this number is at this place
+abbrev pub HasPageAt : {S : Type 0} → HashMap (ℕ × ℕ) (List Cell) S → ℕ → ℕ → ℕ → Type 0
+HasPageAt kept variable number place =
+    (page : List Cell) × (slice_get kept.entries place ≡ Some ((variable, number), page)) × (page_in kept variable number ≡ Some page)
 
 -- what the page that was found keeps at a place
 abbrev pub kept_at : Option (List Cell) → ℕ → Recorded

@@ -1,9 +1,9 @@
 //! Tables of the construction: the records of a variable, the branches that lead to a block, and the
 //! parameters that wait in it.
-ghost use Rattle.std.specs.Prelude.{◌≡◌, ◌≢◌, ◌==◌, ◌&&◌, ◌↔◌, IsTrue, false, ℕ, [], ◌∷◌, ◌++◌, ◌<◌, ◌≤◌, ◌+◌, ◌⊎◌, ◌^◌, length, take, OnOk, OnErr, IfOk, Some, None, option_copied, if◌then◌else◌, slice_index, slice_index_or};
+ghost use Rattle.std.specs.Prelude.{◌≡◌, ◌≢◌, ◌==◌, ◌&&◌, ◌↔◌, IsTrue, false, ℕ, [], ◌∷◌, ◌++◌, ◌<◌, ◌≤◌, ◌+◌, ◌⊎◌, ◌^◌, length, take, OnOk, OnErr, IfOk, IfSome, IfNone, Some, None, option_copied, if◌then◌else◌, slice_index, slice_index_or};
 ghost use Rattle.clif_instructions.specs.Members.{Stands, place_of, stands_in, without};
 ghost use Rattle.std.specs.FinMap as map;
-ghost use Rattle.clif_records.specs.Pages.{ChangesCell, IsAtHand, added_by, is_nothing, kept_at, page_number, place_in_page, recorded_in};
+ghost use Rattle.clif_records.specs.Pages.{ChangesCell, HasPageAt, IsAtHand, added_by, is_nothing, kept_at, page_in, page_number, place_in_page, recorded_in};
 ghost use Rattle.clif_records.specs.Records.{recording, counting, HasEntry, RecordsIn, RecordsUpTo, RecordsSome};
 ghost use Rattle.clif_records.specs.Tables.{No, Yes, recorded_at, record_at, lookups_at, one_more, known_at, sealed_at, predecessors_at, sealed_predecessors_at, is_yes, pending_of};
 
@@ -11,9 +11,9 @@ use crate::runs::put_run;
 use crate::variable::Variable;
 use crate::waiting::{PendingList, PendingTable};
 use clif_types::{Block, BuildError, EntityRef, Inst, Value};
+use indexmap::IndexMap;
 use smallvec::SmallVec;
 use std::alloc::Global;
-use std::collections::HashMap;
 use std::marker::Model;
 
 /// What is known of a variable in a block.
@@ -53,6 +53,9 @@ const NO_VALUE: u32 = 0xffff_ffff;
 const BLOCKS_IN_PAGE: u32 = 8;
 
 pub(crate) type Page = [Cell; BLOCKS_IN_PAGE as usize];
+
+// Pages by their variable and number, in the order in which they were made.
+type Pages = IndexMap<(Variable, u32), Page>;
 
 const EMPTY_PAGE: Page = [Cell {
     value: NO_VALUE,
@@ -132,6 +135,45 @@ pub(crate) fn place_in_page(block: Block) -> usize
     (block.as_u32() % BLOCKS_IN_PAGE) as usize
 }
 
+// How many hints a table keeps: enough for most functions, and no more for a variable with a large number.
+const HINTS: usize = 64;
+
+// Which hint is that of a variable.
+fn hint_of(variable: Variable) -> usize
+    ensures { result < 64 }
+{
+    variable.index() % HINTS
+}
+
+// Where the page of a variable with this number is, if there is one. It is searched only where the page at the place
+// that the hint names is another.
+#[inline(always)]
+fn place_of(pages: &Pages, hint: usize, variable: Variable, number: u32) -> Option<usize>
+    ensures there { IfSome result (HasPageAt pages.now variable number) }
+    ensures none { IfNone result (page_in pages.now variable number ≡ None) }
+{
+    if let Some((key, _)) = pages.get_index(hint) {
+        if key.0 == variable && key.1 == number {
+            return Some(hint);
+        }
+    }
+    match pages.get_full(&(variable, number)) {
+        Some((place, _, _)) => Some(place),
+        None => None,
+    }
+}
+
+// The page of a variable with this number, if there is one.
+#[inline(always)]
+fn page_at(pages: &Pages, hint: usize, variable: Variable, number: u32) -> Option<&Page>
+    ensures { option_copied result ≡ page_in pages.now variable number }
+{
+    match place_of(pages, hint, variable, number) {
+        Some(place) => Some(&pages[place]),
+        None => None,
+    }
+}
+
 /// The page of a variable that was searched last, in which blocks beside one another have their cells.
 #[derive(Clone, Copy)]
 pub struct PageAtHand<'a> {
@@ -153,17 +195,25 @@ impl PageAtHand<'_> {
 
 /// The records of all variables: a hash map from a variable and eight blocks with numbers side by side to a page
 /// of cells, and how many cells keep something. So its memory is at most one page a record, and blocks that lie
-/// side by side share the search for their page.
+/// side by side share the search for their page. Where a variable's page was the last to change, it is found with no
+/// search.
 #[derive(Debug)]
 pub struct VariableTable {
-    pages: HashMap<(Variable, u32), Page>,
+    pages: Pages,
     count: usize,
+    // For each remainder of a variable's number by 64, where the page that was changed last of such a variable is. Any
+    // place may stand here: what the page there is is tested.
+    hints: [usize; HINTS],
 }
 
 // By hand: a derived one is proved anew at each way out of a function that holds such a value.
 impl Drop for VariableTable {
     fn drop(self) {
-        let VariableTable { pages: _, count: _ } = self;
+        let VariableTable {
+            pages: _,
+            count: _,
+            hints: _,
+        } = self;
     }
 }
 
@@ -188,8 +238,9 @@ impl VariableTable {
         ensures { result ≡ map.empty }
     {
         VariableTable {
-            pages: HashMap::new(alloc),
+            pages: IndexMap::new(alloc),
             count: 0,
+            hints: [0; HINTS],
         }
     }
 
@@ -222,9 +273,10 @@ impl VariableTable {
         ensures at_hand { IsAtHand self.now variable result }
     {
         let number = page_number(block);
+        let hint = self.hints[hint_of(variable)];
         PageAtHand {
             number,
-            page: self.pages.get(&(variable, number)),
+            page: page_at(&self.pages, hint, variable, number),
         }
     }
 
@@ -303,9 +355,11 @@ impl VariableTable {
         if self.count == usize::MAX {
             return Err(BuildError::Memory);
         }
-        let key = (variable, page_number(block));
-        match self.pages.get_mut(&key) {
-            Some(page) => {
+        let number = page_number(block);
+        match place_of(&self.pages, self.hints[hint_of(variable)], variable, number) {
+            Some(place) => {
+                self.hints[hint_of(variable)] = place;
+                let (_, page) = self.pages.pair_mut(place);
                 self.count += put_value(page, place_in_page(block), value);
                 Ok(())
             }
@@ -327,6 +381,7 @@ impl VariableTable {
         if self.count == usize::MAX {
             return Err(BuildError::Memory);
         }
+        self.hints[hint_of(variable)] = self.pages.len();
         let page = self
             .pages
             .entry((variable, page_number(block)))?
@@ -389,8 +444,10 @@ impl VariableTable {
             return Err(BuildError::Memory);
         }
         let number = page_number(blocks[0]);
-        match self.pages.get_mut(&(variable, number)) {
-            Some(page) => {
+        match place_of(&self.pages, self.hints[hint_of(variable)], variable, number) {
+            Some(place) => {
+                self.hints[hint_of(variable)] = place;
+                let (_, page) = self.pages.pair_mut(place);
                 let run = put_run(page, number, blocks, from, value);
                 self.count += run.added;
                 Ok(run.blocks)
@@ -419,9 +476,11 @@ impl VariableTable {
         if self.count == usize::MAX {
             return Err(BuildError::Memory);
         }
-        let key = (variable, page_number(block));
-        match self.pages.get_mut(&key) {
-            Some(page) => {
+        let number = page_number(block);
+        match place_of(&self.pages, self.hints[hint_of(variable)], variable, number) {
+            Some(place) => {
+                self.hints[hint_of(variable)] = place;
+                let (_, page) = self.pages.pair_mut(place);
                 self.count += count_one(page, place_in_page(block));
                 Ok(())
             }
@@ -438,6 +497,7 @@ impl VariableTable {
         if self.count == usize::MAX {
             return Err(BuildError::Memory);
         }
+        self.hints[hint_of(variable)] = self.pages.len();
         let page = self
             .pages
             .entry((variable, page_number(block)))?

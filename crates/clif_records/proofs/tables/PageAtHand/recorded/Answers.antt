@@ -1,4 +1,4 @@
-use Rattle.std.proofs.Common.{◌≡◌, ◌∙◌, Some, sym, ap}
+use Rattle.std.proofs.Common.{◌∙◌, Some, sym, ap}
 use Rattle.std.specs.Prelude.{option_copied}
 use Rattle.clif_records.specs.Pages.{kept_at, place_in_page}
 use Rattle.clif_records.proofs.tables.PageAtHand.recorded.Goals as goal

@@ -1,30 +1,28 @@
-use Rattle.std.proofs.Common.{rules, ◌≡◌, ◌∙◌, ◌+◌, sym, ap, Some}
+use Rattle.std.proofs.Common.{rules, ◌≡◌, ◌∙◌, ◌+◌, sym, ap}
 use Rattle.std.specs.Prelude.{OnOk, OnErr}
-use Rattle.std.specs.Option.{option_copied_mut}
 use Rattle.std.specs.FinMap as map
-use Rattle.std.specs.HashMap.{get}
 use Rattle.clif_records.specs.Records.{counting, HasEntry}
 use Rattle.clif_records.specs.Tables.{record_at}
 use Rattle.clif_records.specs.Pages.{records_in}
 use Rattle.clif_records.proofs.RecordLaws.{either_way, on_ok}
 use Rattle.clif_records.proofs.RecordMaps.{count_changed, value_kept}
-use Rattle.clif_records.proofs.Pages.{entry_from, len-written, page_written, same_key}
+use Rattle.clif_records.proofs.Pages.{entry_from, len-written}
+use Rattle.clif_records.proofs.Places.{page_found, page_written_at}
 use Rattle.clif_records.proofs.tables.VariableTable.count_lookup.Goals as goal
 
 -- THE PAGE IS THERE -----------------------------------------------------------------------------------------------
 
 pub returns-in-Some-clause-entry : goal.returns-in-Some-clause-entry
 returns-in-Some-clause-entry c =
-    let found : get same_key c.self.inside.pages (c.args.variable, c.page_number.result) ≡ Some c.in-Some.page.now = sym c.get_mut.ensures.value ∙ ap option_copied_mut c.in-Some.is in
-    rw (← c.self.view_is) (page_written c.self.inside.pages _ c.args.variable c.args.block c.page_number.result c.place_in_page.result counting c.in-Some.page.now c.count_one.new.page
-    c.page_number.ensures c.place_in_page.ensures.exact found (c.get_mut.follows.holds c.count_one.new.page) c.count_one.ensures.changed)
+    rw (← c.self.view_is) (page_written_at c.self.inside.pages c.args.variable c.args.block c.page_number-number.result c.place_in_page.result c.in-Some.place counting _ _ c.count_one.new.page
+    c.page_number-number.ensures c.place_in_page.ensures.exact c.pair_mut-page.ensures.unique c.in-Some.ensures.there c.pair_mut-page.ensures.value c.count_one.ensures.changed)
 
 pub invariant_of-self : goal.invariant_of-self
 invariant_of-self c =
-    let found : get same_key c.self.inside.pages (c.args.variable, c.page_number.result) ≡ Some c.in-Some.page.now = sym c.get_mut.ensures.value ∙ ap option_copied_mut c.in-Some.is in
     ap (λ n. n + c.count_one.result) c.self.invariant ∙ ap (λ n. map.len (records_in c.self.inside.pages) + n) c.count_one.ensures.added
-    ∙ sym (len-written c.self.inside.pages _ c.args.variable c.args.block c.page_number.result c.place_in_page.result counting c.in-Some.page.now
-    c.page_number.ensures c.place_in_page.ensures.exact found
+    ∙ sym (len-written c.self.inside.pages _ c.args.variable c.args.block c.page_number-number.result c.place_in_page.result counting _
+    c.page_number-number.ensures c.place_in_page.ensures.exact
+    (page_found c.self.inside.pages c.args.variable c.page_number-number.result c.in-Some.place _ _ c.in-Some.ensures.there c.pair_mut-page.ensures.value)
     (entry_from _ _ _ c.args.variable c.args.block counting c.self.view_is (returns-in-Some-clause-entry c)))
 
 pub returns-in-Some-clause-records : goal.returns-in-Some-clause-records

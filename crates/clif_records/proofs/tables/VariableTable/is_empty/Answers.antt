@@ -1,4 +1,4 @@
-use Rattle.std.proofs.Common.{rules, ◌≡◌, ◌∙◌, sym, ap, arith, eq-eqb}
+use Rattle.std.proofs.Common.{◌≡◌, ◌∙◌, sym, ap, arith}
 use Rattle.std.specs.FinMap as map
 use Rattle.std.specs.FinMap.{len-empty, empty_of_len}
 use Rattle.std.proofs.lemmas.Grind.{common_steps}

@@ -1,37 +1,38 @@
-use Rattle.std.proofs.Common.{rules, ◌≡◌, ◌+◌, ◌∙◌, sym, ap, Some, arith}
+use Rattle.std.proofs.Common.{rules, ◌≡◌, ◌+◌, ◌∙◌, sym, ap, arith}
 use Rattle.std.specs.Prelude.{slice_index}
-use Rattle.std.specs.Option.{option_copied_mut}
-use Rattle.std.specs.HashMap.{get}
 use Rattle.std.proofs.lemmas.Grind.{common_steps}
 use Rattle.clif_records.specs.Records.{recording, HasEntry}
 use Rattle.clif_records.specs.Pages.{page_number}
 use Rattle.clif_records.proofs.Copying.{get_or-inside}
 use Rattle.clif_records.proofs.RecordMaps.{count_kept}
-use Rattle.clif_records.proofs.Pages.{same_key}
-use Rattle.clif_records.proofs.OnePage.{first-recorded, run-written}
+use Rattle.clif_records.proofs.Places.{has_page, page_found}
+use Rattle.clif_records.proofs.OnePage.{first-recorded, run-recorded}
 use Rattle.clif_records.proofs.tables.VariableTable.set_run.Goals as goal
 
 -- THE PAGE IS THERE -----------------------------------------------------------------------------------------------
 
 pub returns-in-Some-clause-run : goal.returns-in-Some-clause-run
 returns-in-Some-clause-run c =
-    let found : get same_key c.self.inside.pages (c.args.variable, c.page_number-number.result) ≡ Some c.in-Some.page.now = sym c.get_mut.ensures.value ∙ ap option_copied_mut c.in-Some.is in
-    let whole = run-written c.self.inside.pages _ c.args.variable c.page_number-number.result c.args.value c.args.blocks.now c.in-Some.page.now c.put_run-run.new.page c.put_run-run.result.added c.put_run-run.result.blocks
-    c.put_run-run.ensures.within c.put_run-run.ensures.of_page found c.put_run-run.ensures.run (c.get_mut.follows.holds c.put_run-run.new.page) in
+    let whole = run-recorded c.self.inside.pages.entries _ c.args.variable c.page_number-number.result c.args.value c.args.blocks.now _ c.put_run-run.new.page c.put_run-run.result.added c.put_run-run.result.blocks
+    c.put_run-run.ensures.within c.put_run-run.ensures.of_page
+    (page_found c.self.inside.pages c.args.variable c.page_number-number.result c.in-Some.place _ _ c.in-Some.ensures.there c.pair_mut-page.ensures.value) c.put_run-run.ensures.run
+    (has_page c.self.inside.pages c.args.variable c.page_number-number.result c.in-Some.place c.put_run-run.new.page c.pair_mut-page.ensures.unique c.in-Some.ensures.there) in
     rw (← c.self.view_is) whole.records
 
 pub returns-in-Some-clause-lookups : goal.returns-in-Some-clause-lookups
 returns-in-Some-clause-lookups c =
-    let found : get same_key c.self.inside.pages (c.args.variable, c.page_number-number.result) ≡ Some c.in-Some.page.now = sym c.get_mut.ensures.value ∙ ap option_copied_mut c.in-Some.is in
-    let whole = run-written c.self.inside.pages _ c.args.variable c.page_number-number.result c.args.value c.args.blocks.now c.in-Some.page.now c.put_run-run.new.page c.put_run-run.result.added c.put_run-run.result.blocks
-    c.put_run-run.ensures.within c.put_run-run.ensures.of_page found c.put_run-run.ensures.run (c.get_mut.follows.holds c.put_run-run.new.page) in
+    let whole = run-recorded c.self.inside.pages.entries _ c.args.variable c.page_number-number.result c.args.value c.args.blocks.now _ c.put_run-run.new.page c.put_run-run.result.added c.put_run-run.result.blocks
+    c.put_run-run.ensures.within c.put_run-run.ensures.of_page
+    (page_found c.self.inside.pages c.args.variable c.page_number-number.result c.in-Some.place _ _ c.in-Some.ensures.there c.pair_mut-page.ensures.value) c.put_run-run.ensures.run
+    (has_page c.self.inside.pages c.args.variable c.page_number-number.result c.in-Some.place c.put_run-run.new.page c.pair_mut-page.ensures.unique c.in-Some.ensures.there) in
     rw (← c.self.view_is) whole.lookups
 
 pub invariant_of-self : goal.invariant_of-self
 invariant_of-self c =
-    let found : get same_key c.self.inside.pages (c.args.variable, c.page_number-number.result) ≡ Some c.in-Some.page.now = sym c.get_mut.ensures.value ∙ ap option_copied_mut c.in-Some.is in
-    let whole = run-written c.self.inside.pages _ c.args.variable c.page_number-number.result c.args.value c.args.blocks.now c.in-Some.page.now c.put_run-run.new.page c.put_run-run.result.added c.put_run-run.result.blocks
-    c.put_run-run.ensures.within c.put_run-run.ensures.of_page found c.put_run-run.ensures.run (c.get_mut.follows.holds c.put_run-run.new.page) in
+    let whole = run-recorded c.self.inside.pages.entries _ c.args.variable c.page_number-number.result c.args.value c.args.blocks.now _ c.put_run-run.new.page c.put_run-run.result.added c.put_run-run.result.blocks
+    c.put_run-run.ensures.within c.put_run-run.ensures.of_page
+    (page_found c.self.inside.pages c.args.variable c.page_number-number.result c.in-Some.place _ _ c.in-Some.ensures.there c.pair_mut-page.ensures.value) c.put_run-run.ensures.run
+    (has_page c.self.inside.pages c.args.variable c.page_number-number.result c.in-Some.place c.put_run-run.new.page c.pair_mut-page.ensures.unique c.in-Some.ensures.there) in
     ap (λ n. n + c.put_run-run.result.added) c.self.invariant ∙ sym whole.count
 
 pub returns-in-Some-clause-within : goal.returns-in-Some-clause-within
