@@ -49,6 +49,11 @@ pub fn numbered_results(alloc: Global, first: usize, count: usize) -> Result<Val
     ensures only_memory { OnErr result (result ≡ Err BuildError.Memory) }
 {
     let mut results = ValueList::new(alloc);
+    if count == 1 {
+        // Most instructions have one result, for which this needs no loop.
+        results.push(Value::new(first))?;
+        return Ok(results);
+    }
     for place in 0..count {
         results.push(Value::new(first + place))?;
     }
@@ -112,6 +117,7 @@ pub fn room_for_inst(
 }
 
 /// Puts results of these kinds of `inst` into the table of values, which has room for them.
+#[inline(always)]
 pub fn push_result_nodes(
     values: &mut Vec<ValueNode>,
     inst: Inst,
@@ -125,6 +131,12 @@ pub fn push_result_nodes(
     ensures len { vec_len values.new ≡ vec_len values.old + length kinds.now }
     ensures capacity { vec_capacity values.new ≡ vec_capacity values.old }
 {
+    if let [kind] = kinds {
+        let ty = kind.at(controlling);
+        let origin = ValueOrigin::Result(inst, 0);
+        values.push_reserved(ValueNode { ty, origin });
+        return;
+    }
     for (place, kind) in kinds.iter().enumerate() {
         let ty = kind.at(controlling);
         let origin = ValueOrigin::Result(inst, place as u32);
