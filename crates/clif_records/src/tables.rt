@@ -145,6 +145,19 @@ fn hint_of(variable: Variable) -> usize
     variable.index() % HINTS
 }
 
+// The place that the hint names, if the page there is that of a variable with this number.
+#[inline(always)]
+fn hinted_place(pages: &Pages, hint: usize, variable: Variable, number: u32) -> Option<usize>
+    ensures { IfSome result (HasPageAt pages.now variable number) }
+{
+    if let Some((key, _)) = pages.get_index(hint) {
+        if key.0 == variable && key.1 == number {
+            return Some(hint);
+        }
+    }
+    None
+}
+
 // Where the page of a variable with this number is, if there is one. It is searched only where the page at the place
 // that the hint names is another.
 #[inline(always)]
@@ -152,10 +165,8 @@ fn place_of(pages: &Pages, hint: usize, variable: Variable, number: u32) -> Opti
     ensures there { IfSome result (HasPageAt pages.now variable number) }
     ensures none { IfNone result (page_in pages.now variable number ≡ None) }
 {
-    if let Some((key, _)) = pages.get_index(hint) {
-        if key.0 == variable && key.1 == number {
-            return Some(hint);
-        }
+    if let Some(place) = hinted_place(pages, hint, variable, number) {
+        return Some(place);
     }
     match pages.get_full(&(variable, number)) {
         Some((place, _, _)) => Some(place),
@@ -356,19 +367,18 @@ impl VariableTable {
             return Err(BuildError::Memory);
         }
         let number = page_number(block);
-        match place_of(&self.pages, self.hints[hint_of(variable)], variable, number) {
+        match hinted_place(&self.pages, self.hints[hint_of(variable)], variable, number) {
             Some(place) => {
-                self.hints[hint_of(variable)] = place;
                 let (_, page) = self.pages.pair_mut(place);
                 self.count += put_value(page, place_in_page(block), value);
                 Ok(())
             }
-            None => self.set_in_new_page(variable, block, value),
+            None => self.set_in_other_page(variable, block, value),
         }
     }
 
-    // Records a value for a variable in a block whose page may not be there yet.
-    fn set_in_new_page(
+    // Records a value for a variable in a block whose page is searched, and may not be there yet.
+    fn set_in_other_page(
         &mut self,
         variable: Variable,
         block: Block,
@@ -381,11 +391,9 @@ impl VariableTable {
         if self.count == usize::MAX {
             return Err(BuildError::Memory);
         }
-        self.hints[hint_of(variable)] = self.pages.len();
-        let page = self
-            .pages
-            .entry((variable, page_number(block)))?
-            .or_insert(EMPTY_PAGE);
+        let entry = self.pages.entry((variable, page_number(block)))?;
+        self.hints[hint_of(variable)] = entry.index();
+        let page = entry.or_insert(EMPTY_PAGE);
         self.count += put_value(page, place_in_page(block), value);
         Ok(())
     }
@@ -444,16 +452,15 @@ impl VariableTable {
             return Err(BuildError::Memory);
         }
         let number = page_number(blocks[0]);
-        match place_of(&self.pages, self.hints[hint_of(variable)], variable, number) {
+        match hinted_place(&self.pages, self.hints[hint_of(variable)], variable, number) {
             Some(place) => {
-                self.hints[hint_of(variable)] = place;
                 let (_, page) = self.pages.pair_mut(place);
                 let run = put_run(page, number, blocks, from, value);
                 self.count += run.added;
                 Ok(run.blocks)
             }
             None => {
-                self.set_in_new_page(variable, blocks[0], value)?;
+                self.set_in_other_page(variable, blocks[0], value)?;
                 Ok(1)
             }
         }
@@ -477,19 +484,18 @@ impl VariableTable {
             return Err(BuildError::Memory);
         }
         let number = page_number(block);
-        match place_of(&self.pages, self.hints[hint_of(variable)], variable, number) {
+        match hinted_place(&self.pages, self.hints[hint_of(variable)], variable, number) {
             Some(place) => {
-                self.hints[hint_of(variable)] = place;
                 let (_, page) = self.pages.pair_mut(place);
                 self.count += count_one(page, place_in_page(block));
                 Ok(())
             }
-            None => self.count_in_new_page(variable, block),
+            None => self.count_in_other_page(variable, block),
         }
     }
 
-    // Counts a look-up of a variable in a block whose page may not be there yet.
-    fn count_in_new_page(&mut self, variable: Variable, block: Block) -> Result<(), BuildError>
+    // Counts a look-up of a variable in a block whose page is searched, and may not be there yet.
+    fn count_in_other_page(&mut self, variable: Variable, block: Block) -> Result<(), BuildError>
         ensures entry { OnOk result (HasEntry self.old self.new variable block counting) }
         ensures refused { OnErr result (self.new ≡ self.old) }
         ensures only_memory { OnErr result (result ≡ Err BuildError.Memory) }
@@ -497,11 +503,9 @@ impl VariableTable {
         if self.count == usize::MAX {
             return Err(BuildError::Memory);
         }
-        self.hints[hint_of(variable)] = self.pages.len();
-        let page = self
-            .pages
-            .entry((variable, page_number(block)))?
-            .or_insert(EMPTY_PAGE);
+        let entry = self.pages.entry((variable, page_number(block)))?;
+        self.hints[hint_of(variable)] = entry.index();
+        let page = entry.or_insert(EMPTY_PAGE);
         self.count += count_one(page, place_in_page(block));
         Ok(())
     }

@@ -15,14 +15,14 @@ use Rattle.clif_records.proofs.tables.VariableTable.count_lookup.Goals as goal
 pub returns-in-Some-clause-entry : goal.returns-in-Some-clause-entry
 returns-in-Some-clause-entry c =
     rw (← c.self.view_is) (page_written_at c.self.inside.pages c.args.variable c.args.block c.page_number-number.result c.place_in_page.result c.in-Some.place counting _ _ c.count_one.new.page
-    c.page_number-number.ensures c.place_in_page.ensures.exact c.pair_mut-page.ensures.unique c.in-Some.ensures.there c.pair_mut-page.ensures.value c.count_one.ensures.changed)
+    c.page_number-number.ensures c.place_in_page.ensures.exact c.pair_mut-page.ensures.unique c.in-Some.ensures c.pair_mut-page.ensures.value c.count_one.ensures.changed)
 
 pub invariant_of-self : goal.invariant_of-self
 invariant_of-self c =
     ap (λ n. n + c.count_one.result) c.self.invariant ∙ ap (λ n. map.len (records_in c.self.inside.pages) + n) c.count_one.ensures.added
     ∙ sym (len-written c.self.inside.pages _ c.args.variable c.args.block c.page_number-number.result c.place_in_page.result counting _
     c.page_number-number.ensures c.place_in_page.ensures.exact
-    (page_found c.self.inside.pages c.args.variable c.page_number-number.result c.in-Some.place _ _ c.in-Some.ensures.there c.pair_mut-page.ensures.value)
+    (page_found c.self.inside.pages c.args.variable c.page_number-number.result c.in-Some.place _ _ c.in-Some.ensures c.pair_mut-page.ensures.value)
     (entry_from _ _ _ c.args.variable c.args.block counting c.self.view_is (returns-in-Some-clause-entry c)))
 
 pub returns-in-Some-clause-records : goal.returns-in-Some-clause-records
@@ -35,11 +35,11 @@ returns-in-Some-clause-ok c = count_changed _ _ c.args.variable c.args.block (re
 
 pub returns-in-None-clause-records : goal.returns-in-None-clause-records
 returns-in-None-clause-records c =
-    let has : OnOk c.count_in_new_page.result (HasEntry c.args.self.now c.count_in_new_page.new.self c.args.variable c.args.block counting) = search rules in
-    let same : OnErr c.count_in_new_page.result (c.count_in_new_page.new.self ≡ c.args.self.now) = search rules in
-    either_way c.count_in_new_page.result _ _ _ (value_kept _ _ c.args.variable c.args.block) (λ is v b. ap (λ m. record_at m v b) is) has same
+    let has : OnOk c.count_in_other_page.result (HasEntry c.args.self.now c.count_in_other_page.new.self c.args.variable c.args.block counting) = search rules in
+    let same : OnErr c.count_in_other_page.result (c.count_in_other_page.new.self ≡ c.args.self.now) = search rules in
+    either_way c.count_in_other_page.result _ _ _ (value_kept _ _ c.args.variable c.args.block) (λ is v b. ap (λ m. record_at m v b) is) has same
 
 pub returns-in-None-clause-ok : goal.returns-in-None-clause-ok
 returns-in-None-clause-ok c =
-    let has : OnOk c.count_in_new_page.result (HasEntry c.args.self.now c.count_in_new_page.new.self c.args.variable c.args.block counting) = search rules in
-    on_ok c.count_in_new_page.result _ _ (count_changed _ _ c.args.variable c.args.block) has
+    let has : OnOk c.count_in_other_page.result (HasEntry c.args.self.now c.count_in_other_page.new.self c.args.variable c.args.block counting) = search rules in
+    on_ok c.count_in_other_page.result _ _ (count_changed _ _ c.args.variable c.args.block) has

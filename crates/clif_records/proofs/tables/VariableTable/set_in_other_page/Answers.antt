@@ -4,12 +4,12 @@ use Rattle.std.specs.FinMap as map
 use Rattle.clif_records.specs.Records.{recording}
 use Rattle.clif_records.specs.Pages.{records_in}
 use Rattle.clif_records.proofs.Pages.{entry_from, len-after-at, page_changed}
-use Rattle.clif_records.proofs.tables.VariableTable.set_in_new_page.Goals as goal
+use Rattle.clif_records.proofs.tables.VariableTable.set_in_other_page.Goals as goal
 
 pub returns-clause-entry : goal.returns-clause-entry
 returns-clause-entry c =
     rw (← c.self.view_is) (page_changed c.self.inside.pages.entries _ _ c.args.variable c.args.block c.page_number.result c.place_in_page.result (recording c.args.value) c.or_insert-page.result.now _
-    c.page_number.ensures c.place_in_page.ensures.exact ((c.in_ok-self-inside.ensures.update).0 _).0
+    c.page_number.ensures c.place_in_page.ensures.exact ((c.in_ok-entry.ensures.update).0 _).0
     (first_of (search rules, grind (arith, common_steps))) c.put_value.ensures.changed (first_of (search rules, grind (arith, common_steps))))
 
 pub invariant_of-self-2 : goal.invariant_of-self-2
