@@ -321,6 +321,9 @@ fn write_alias_lines<W: fmt::Write>(
 ) -> fmt::Result
     requires { EachIndex values.now (λ k. slice_index values.now k < length func.now.values) }
 {
+    if func.aliases.is_empty() {
+        return Ok(());
+    }
     for value in values.iter() {
         write_aliases_of(f, func, *value)?;
     }

@@ -3,7 +3,7 @@
 //! The aliases of one value hang in a tree. On the two sides below each stand those that have a zero and a one at the
 //! next bit of their numbers, the highest bit first. So no way down is longer than a number has bits, in whatever order
 //! aliases come, and a new one is put where its way ends and moves no other.
-ghost use Rattle.std.specs.Prelude.{◌≡◌, ◌++◌, ◌∷◌, [], length, map, ◌<◌, ◌-◌, ◌^◌, IfSome, OnOk, OnErr};
+ghost use Rattle.std.specs.Prelude.{◌≡◌, ◌++◌, ◌∷◌, [], length, map, ◌<◌, ◌-◌, ◌^◌, ◌↔◌, IsTrue, IfSome, OnOk, OnErr};
 ghost use Rattle.clif_nodes.specs.Aliases.{alias_of_row};
 
 use clif_types::{BuildError, EntityRef, Value};
@@ -82,6 +82,13 @@ impl AliasTable {
             rows: Vec::new(alloc),
             tops: Vec::new(alloc),
         }
+    }
+
+    /// Whether no value has an alias.
+    pub fn is_empty(&self) -> bool
+        ensures { IsTrue result ↔ (length self.now ≡ 0) }
+    {
+        self.rows.len() == 0
     }
 
     /// Makes `alias` one of `original`.
