@@ -2,6 +2,7 @@ pub mod Tables
 pub mod Passed
 pub mod Records
 pub mod Pages
+pub mod Keys
 pub mod Stacks
 pub mod Tracking
 pub mod Lends

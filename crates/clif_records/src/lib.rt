@@ -8,6 +8,7 @@
 #![tactic(auto)]
 
 pub mod look_up;
+mod page_key;
 pub mod passed;
 mod runs;
 pub mod side_effects;

@@ -7,6 +7,7 @@ ghost use Rattle.clif_records.specs.Pages.{ChangesCell, HasPageAt, IsAtHand, add
 ghost use Rattle.clif_records.specs.Records.{recording, counting, HasEntry, RecordsIn, RecordsUpTo, RecordsSome};
 ghost use Rattle.clif_records.specs.Tables.{No, Yes, recorded_at, record_at, lookups_at, one_more, known_at, sealed_at, predecessors_at, sealed_predecessors_at, is_yes, pending_of};
 
+use crate::page_key::PageKey;
 use crate::runs::put_run;
 use crate::variable::Variable;
 use crate::waiting::{PendingList, PendingTable};
@@ -55,7 +56,7 @@ const BLOCKS_IN_PAGE: u32 = 8;
 pub(crate) type Page = [Cell; BLOCKS_IN_PAGE as usize];
 
 // Pages by their variable and number, in the order in which they were made.
-type Pages = IndexMap<(Variable, u32), Page>;
+type Pages = IndexMap<PageKey, Page>;
 
 const EMPTY_PAGE: Page = [Cell {
     value: NO_VALUE,
@@ -151,7 +152,7 @@ fn hinted_place(pages: &Pages, hint: usize, variable: Variable, number: u32) -> 
     ensures { IfSome result (HasPageAt pages.now variable number) }
 {
     if let Some((key, _)) = pages.get_index(hint) {
-        if key.0 == variable && key.1 == number {
+        if key.variable == variable && key.number == number {
             return Some(hint);
         }
     }
@@ -168,7 +169,7 @@ fn place_of(pages: &Pages, hint: usize, variable: Variable, number: u32) -> Opti
     if let Some(place) = hinted_place(pages, hint, variable, number) {
         return Some(place);
     }
-    match pages.get_full(&(variable, number)) {
+    match pages.get_full(&PageKey { variable, number }) {
         Some((place, _, _)) => Some(place),
         None => None,
     }
@@ -391,7 +392,8 @@ impl VariableTable {
         if self.count == usize::MAX {
             return Err(BuildError::Memory);
         }
-        let entry = self.pages.entry((variable, page_number(block)))?;
+        let number = page_number(block);
+        let entry = self.pages.entry(PageKey { variable, number })?;
         self.hints[hint_of(variable)] = entry.index();
         let page = entry.or_insert(EMPTY_PAGE);
         self.count += put_value(page, place_in_page(block), value);
@@ -503,7 +505,8 @@ impl VariableTable {
         if self.count == usize::MAX {
             return Err(BuildError::Memory);
         }
-        let entry = self.pages.entry((variable, page_number(block)))?;
+        let number = page_number(block);
+        let entry = self.pages.entry(PageKey { variable, number })?;
         self.hints[hint_of(variable)] = entry.index();
         let page = entry.or_insert(EMPTY_PAGE);
         self.count += count_one(page, place_in_page(block));

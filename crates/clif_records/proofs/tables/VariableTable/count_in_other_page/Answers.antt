@@ -8,13 +8,13 @@ use Rattle.clif_records.proofs.tables.VariableTable.count_in_other_page.Goals as
 
 pub returns-clause-entry : goal.returns-clause-entry
 returns-clause-entry c =
-    rw (← c.self.view_is) (page_changed c.self.inside.pages.entries _ _ c.args.variable c.args.block c.page_number.result c.place_in_page.result counting c.or_insert-page.result.now _
-    c.page_number.ensures c.place_in_page.ensures.exact ((c.in_ok-entry.ensures.update).0 _).0
+    rw (← c.self.view_is) (page_changed c.self.inside.pages.entries _ _ c.args.variable c.args.block c.page_number-number.result c.place_in_page.result counting c.or_insert-page.result.now _
+    c.page_number-number.ensures c.place_in_page.ensures.exact ((c.in_ok-entry.ensures.update).0 _).0
     (first_of (search rules, grind (arith, common_steps))) c.count_one.ensures.changed (first_of (search rules, grind (arith, common_steps))))
 
 pub invariant_of-self-2 : goal.invariant_of-self-2
 invariant_of-self-2 c =
     ap (λ n. n + c.count_one.result) c.self.invariant ∙ ap (λ n. map.len (records_in c.self.inside.pages) + n) c.count_one.ensures.added
-    ∙ sym (len-after-at c.self.inside.pages.entries _ c.args.variable c.args.block c.page_number.result c.place_in_page.result counting c.or_insert-page.result.now
-    c.page_number.ensures c.place_in_page.ensures.exact (first_of (search rules, grind (arith, common_steps)))
+    ∙ sym (len-after-at c.self.inside.pages.entries _ c.args.variable c.args.block c.page_number-number.result c.place_in_page.result counting c.or_insert-page.result.now
+    c.page_number-number.ensures c.place_in_page.ensures.exact (first_of (search rules, grind (arith, common_steps)))
     (entry_from _ _ _ c.args.variable c.args.block counting c.self.view_is (returns-clause-entry c)))
