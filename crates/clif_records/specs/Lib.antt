@@ -7,3 +7,4 @@ pub mod Stacks
 pub mod Tracking
 pub mod Lends
 pub mod Waiting
+pub mod Branches

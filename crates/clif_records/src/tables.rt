@@ -3,6 +3,7 @@
 ghost use Rattle.std.specs.Prelude.{◌≡◌, ◌≢◌, ◌==◌, ◌&&◌, ◌↔◌, IsTrue, false, ℕ, [], ◌∷◌, ◌++◌, ◌<◌, ◌≤◌, ◌+◌, ◌⊎◌, ◌^◌, length, take, OnOk, OnErr, IfOk, IfSome, IfNone, Some, None, option_copied, if◌then◌else◌, slice_index, slice_index_or};
 ghost use Rattle.clif_instructions.specs.Members.{Stands, place_of, stands_in, without};
 ghost use Rattle.std.specs.FinMap as map;
+ghost use Rattle.clif_records.specs.Branches.{branches_of};
 ghost use Rattle.clif_records.specs.Pages.{ChangesCell, HasPageAt, IsAtHand, added_by, is_nothing, kept_at, page_in, page_number, place_in_page, recorded_in};
 ghost use Rattle.clif_records.specs.Records.{recording, counting, HasEntry, RecordsIn, RecordsUpTo, RecordsSome};
 ghost use Rattle.clif_records.specs.Tables.{No, Yes, recorded_at, record_at, lookups_at, one_more, known_at, sealed_at, predecessors_at, sealed_predecessors_at, is_yes, pending_of};
@@ -13,9 +14,9 @@ use crate::variable::Variable;
 use crate::waiting::{PendingList, PendingTable};
 use clif_types::{Block, BuildError, EntityRef, Inst, Value};
 use indexmap::IndexMap;
-use smallvec::SmallVec;
 use std::alloc::Global;
 use std::marker::Model;
+use std::slice;
 
 /// What is known of a variable in a block.
 #[derive(Clone, Copy, Debug, PartialEq, Eq)]
@@ -514,10 +515,10 @@ impl VariableTable {
     }
 }
 
-/// The branches that lead to a block, in the order in which they were declared.
+/// The branches that lead to a block, in the order in which they were declared. Up to two take no memory of their own.
 #[derive(Debug)]
 pub struct Predecessors {
-    branches: SmallVec<Inst, 2>,
+    branches: Branches,
 }
 
 // By hand: a derived one is proved anew at each way out of a function that holds such a value.
@@ -527,54 +528,78 @@ impl Drop for Predecessors {
     }
 }
 
+// The branches of a block.
+#[derive(Debug)]
+enum Branches {
+    None,
+    One(Inst),
+    Two([Inst; 2]),
+    // Three or more, or fewer that are left of these.
+    More(Box<Vec<Inst>>),
+}
+
+// By hand: a derived one is proved anew at each way out of a function that holds such a value.
+impl Drop for Branches {
+    fn drop(self) {
+        match self {
+            Branches::None => {}
+            Branches::One(_) => {}
+            Branches::Two(_) => {}
+            Branches::More(_) => {}
+        }
+    }
+}
+
+const _: () = prove!(size_of::<Predecessors>() == 16);
+
 impl Model for Predecessors {
     ghost use Rattle.std.specs.Prelude.{ℕ, List};
+    ghost use Rattle.clif_records.specs.Branches.{branches_of};
 
     ghost Value = { List ℕ };
 
-    ghost view = { λ p. p.branches.items };
+    ghost view = { λ p. branches_of p.branches };
 }
 
 impl Predecessors {
     /// No branch.
-    pub(crate) fn new(alloc: Global) -> Self
+    pub(crate) fn new() -> Self
         ensures { result ≡ [] }
     {
         Predecessors {
-            branches: SmallVec::new(alloc),
+            branches: Branches::None,
         }
     }
 
     /// The branches, in order.
+    #[inline(always)]
     pub(crate) fn as_slice(&self) -> &[Inst]
         ensures { result.now ≡ self.now }
     {
-        self.branches.as_slice()
+        match &self.branches {
+            Branches::None => &[],
+            Branches::One(branch) => slice::from_ref(branch),
+            Branches::Two(pair) => pair,
+            Branches::More(more) => more.as_slice(),
+        }
     }
 
     /// Puts a branch behind the others. After an error the list is as it was.
-    pub(crate) fn push(&mut self, branch: Inst) -> Result<(), BuildError>
+    pub(crate) fn push(&mut self, alloc: Global, branch: Inst) -> Result<(), BuildError>
         ensures ok { OnOk result (self.new ≡ self.old ++ branch ∷ []) }
         ensures err { OnErr result (self.new ≡ self.old) }
         ensures only_memory { OnErr result (result ≡ Err BuildError.Memory) }
     {
-        self.branches.push(branch)?;
-        Ok(())
-    }
-
-    // The place of the first entry of this branch, which stands in the list.
-    #[tactic(auto, using(clif_instructions::proofs::Members::place_rules))]
-    fn place_of(&self, branch: Inst) -> usize
-        requires { Stands branch self.now }
-        ensures exact { result ≡ place_of branch self.now }
-        ensures inside { result < length self.now }
-    {
-        for (place, other) in self.branches.as_slice().iter().enumerate() {
-            if *other == branch {
-                return place;
+        match &mut self.branches {
+            Branches::None => self.branches = Branches::One(branch),
+            Branches::One(first) => self.branches = Branches::Two([*first, branch]),
+            Branches::Two(pair) => {
+                let [first, second] = *pair;
+                self.branches = more_branches(alloc, &[first, second, branch])?;
             }
+            Branches::More(more) => more.push(branch)?,
         }
-        unreachable!()
+        Ok(())
     }
 
     /// Takes the first entry of this branch away, which stands in the list; those behind it move up.
@@ -583,9 +608,43 @@ impl Predecessors {
         requires { Stands branch self.old }
         ensures { self.new ≡ without branch self.old }
     {
-        let place = self.place_of(branch);
-        let _ = self.branches.remove(place);
+        match &mut self.branches {
+            Branches::None | Branches::One(_) => self.branches = Branches::None,
+            Branches::Two(pair) => {
+                let [first, second] = *pair;
+                self.branches = Branches::One(if first == branch { second } else { first });
+            }
+            Branches::More(more) => {
+                let place = place_in(more.as_slice(), branch);
+                let _ = more.remove(place);
+            }
+        }
     }
+}
+
+// Branches that lie in memory of their own. The only error is `Memory`.
+fn more_branches(alloc: Global, branches: &[Inst]) -> Result<Branches, BuildError>
+    ensures ok { IfOk result (λ more. branches_of more ≡ branches.now) }
+    ensures only_memory { OnErr result (result ≡ Err BuildError.Memory) }
+{
+    let mut more = Vec::new(alloc);
+    more.extend_from_slice(branches)?;
+    Ok(Branches::More(Box::new(alloc, more)?))
+}
+
+// The place of the first entry of this branch, which is one of these.
+#[tactic(auto, using(clif_instructions::proofs::Members::place_rules))]
+fn place_in(branches: &[Inst], branch: Inst) -> usize
+    requires { Stands branch branches.now }
+    ensures exact { result ≡ place_of branch branches.now }
+    ensures inside { result < length branches.now }
+{
+    for (place, other) in branches.iter().enumerate() {
+        if *other == branch {
+            return place;
+        }
+    }
+    unreachable!()
 }
 
 /// Whether a block is sealed, and where in the table of what waits its last parameter is.
@@ -739,11 +798,10 @@ impl BlockTable {
         if block.index() < self.rows.len() {
             return Ok(());
         }
-        let alloc = *self.rows.allocator();
         let missing = (block.index() + 1).saturating_sub(self.rows.len());
         for _ in 0..missing {
             self.rows.push(BlockRow {
-                predecessors: Predecessors::new(alloc),
+                predecessors: Predecessors::new(),
                 state: RowState::Unsealed { last: 0 },
             })?;
         }
@@ -764,7 +822,8 @@ impl BlockTable {
         ensures only_memory { OnErr result (result ≡ Err BuildError.Memory) }
     {
         self.declare(block)?;
-        self.rows[block.index()].predecessors.push(branch)
+        let alloc = *self.rows.allocator();
+        self.rows[block.index()].predecessors.push(alloc, branch)
     }
 
     /// Takes a branch away from those that lead to a block; the others keep their order.
