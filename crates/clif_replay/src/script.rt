@@ -111,19 +111,19 @@ impl ReplayNotes {
     }
 
     // Notes why a call wasn't made.
-    fn note_error(&mut self, error: CallError) {
+    fn note_error(&mut self, error: &CallError) {
         self.condition = match error {
-            CallError::Misuse(condition) | CallError::Refused(condition) => Some(condition),
+            CallError::Misuse(condition) | CallError::Refused(condition) => Some(*condition),
             CallError::Memory | CallError::Full => None,
         };
     }
 
     // Notes why the function wasn't finished.
-    fn note_end(&mut self, error: FinalizeError) {
+    fn note_end(&mut self, error: &FinalizeError) {
         self.condition = match error {
-            FinalizeError::Unsealed(block) => Some(Condition::Unsealed(block)),
-            FinalizeError::Unfilled(block) => Some(Condition::Unended(block)),
-            FinalizeError::TrackedContext(inst) => Some(Condition::TrackedContext(inst)),
+            FinalizeError::Unsealed(block) => Some(Condition::Unsealed(*block)),
+            FinalizeError::Unfilled(block) => Some(Condition::Unended(*block)),
+            FinalizeError::TrackedContext(inst) => Some(Condition::TrackedContext(*inst)),
             FinalizeError::Failed => Some(Condition::Failed),
             FinalizeError::Memory | FinalizeError::Full => None,
         };
@@ -245,7 +245,7 @@ fn build(
     match finished {
         Ok(()) => Ok(()),
         Err(error) => {
-            notes.note_end(error);
+            notes.note_end(&error);
             Err(ended_at(error, calls.len()))
         }
     }
@@ -293,7 +293,7 @@ fn make_calls(
                 answers.push(answer)?;
             }
             Err(error) => {
-                notes.note_error(error);
+                notes.note_error(&error);
                 return Err(told_at(error, place));
             }
         }

@@ -25,8 +25,8 @@ pub returns-then-not-has_current : goal.returns-then-not-has_current
 returns-then-not-has_current c =
     made-denied c.args.builder.now c.args.answers.now (λ naming declared calls ready. Conditions.try-define-closed calls c.args.builder.now c.args.answers.now ready c.args.variable c.args.name (sym c.has_current.ensures ∙ c.if-not-has_current.true))
 
-pub value_type-requires : goal.value_type-requires
-value_type-requires c =
+pub value_type-found-requires : goal.value_type-found-requires
+value_type-found-requires c =
     subst (λ (f : Body). c.in-Some.value < length f.values) (sym c.func-2.ensures)
     (value-exists c.requires.calls c.args.builder.now c.args.answers.now c.requires.ready c.args.name c.in-Some.value
     (ap (λ (f : Body). value_of f c.args.answers.now c.args.name) (sym c.func.ensures) ∙ sym c.value_named.ensures ∙ c.in-Some.is))

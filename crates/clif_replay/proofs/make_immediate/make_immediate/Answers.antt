@@ -25,20 +25,20 @@ value_named-requires c = λ i inside.
 pub returns-in_default : goal.returns-in_default
 returns-in_default c =
     emission-misused c.args.call c.args.builder.now c.args.answers.now (none-judged c.args.call c.args.builder.now c.args.answers.now
-    (ap (value_of c.args.builder.now.func.now c.args.answers.now) (sym c.operand_in.ensures)
-    ∙ ap (λ (f : Body). value_of f c.args.answers.now c.operand_in.result) (sym c.func.ensures) ∙ sym c.value_named.ensures ∙ c.in_default.is))
+    (ap (value_of c.args.builder.now.func.now c.args.answers.now) (sym c.operand_in-name.ensures)
+    ∙ ap (λ (f : Body). value_of f c.args.answers.now c.operand_in-name.result) (sym c.func.ensures) ∙ sym c.value_named.ensures ∙ c.in_default.is))
 
 pub may_take_constant-requires : goal.may_take_constant-requires
 may_take_constant-requires c =
     value-exists c.requires.calls c.args.builder.now c.args.answers.now c.requires.ready (operand_in c.args.call) c.in-Some.x
-    (ap (value_of c.args.builder.now.func.now c.args.answers.now) (sym c.operand_in.ensures)
-    ∙ ap (λ (f : Body). value_of f c.args.answers.now c.operand_in.result) (sym c.func.ensures) ∙ sym c.value_named.ensures ∙ c.in-Some.is)
+    (ap (value_of c.args.builder.now.func.now c.args.answers.now) (sym c.operand_in-name.ensures)
+    ∙ ap (λ (f : Body). value_of f c.args.answers.now c.operand_in-name.result) (sym c.func.ensures) ∙ sym c.value_named.ensures ∙ c.in-Some.is)
 
 pub returns-then-not-may_take_constant : goal.returns-then-not-may_take_constant
 returns-then-not-may_take_constant c =
     emission-misused c.args.call c.args.builder.now c.args.answers.now (some-denied c.args.call c.args.builder.now c.args.answers.now c.in-Some.x
-    (ap (value_of c.args.builder.now.func.now c.args.answers.now) (sym c.operand_in.ensures)
-    ∙ ap (λ (f : Body). value_of f c.args.answers.now c.operand_in.result) (sym c.func.ensures) ∙ sym c.value_named.ensures ∙ c.in-Some.is)
+    (ap (value_of c.args.builder.now.func.now c.args.answers.now) (sym c.operand_in-name.ensures)
+    ∙ ap (λ (f : Body). value_of f c.args.answers.now c.operand_in-name.result) (sym c.func.ensures) ∙ sym c.value_named.ensures ∙ c.in-Some.is)
     (sym c.may_take_constant.ensures ∙ c.if-not-may_take_constant.true))
 
 pub emit-requires-clause-current : goal.emit-requires-clause-current
@@ -50,8 +50,8 @@ returns-in_err-value c =
     let old = c.args.builder.now in
     let can = sym c.may_take_constant.ensures ∙ c.if-not-may_take_constant.false in
     let current = has-current c.requires.calls old c.args.answers.now c.requires.ready (and_parts _ _ can).0 in
-    let found = ap (value_of old.func.now c.args.answers.now) (sym c.operand_in.ensures)
-    ∙ ap (λ (f : Body). value_of f c.args.answers.now c.operand_in.result) (sym c.func.ensures) ∙ sym c.value_named.ensures ∙ c.in-Some.is in
+    let found = ap (value_of old.func.now c.args.answers.now) (sym c.operand_in-name.ensures)
+    ∙ ap (λ (f : Body). value_of f c.args.answers.now c.operand_in-name.result) (sym c.func.ensures) ∙ sym c.value_named.ensures ∙ c.in-Some.is in
     let built = subst (λ (r : Result ℕ BuildError). BuildsEmission c.args.call c.in-Some.x old c.emit.new.builder r) c.in_err-value.was c.emit.ensures.built in
     let p = err_from_is_err_and c.from_residual.result c.from_residual.ensures.1 in
     emission-refused c.args.call old c.emit.new.builder c.args.answers.now c.in_err-value.field-0.0 p.0 c.from_residual.result p.1 p.2
@@ -65,8 +65,8 @@ returns c =
     let value = c.in_ok-value.value in
     let can = sym c.may_take_constant.ensures ∙ c.if-not-may_take_constant.false in
     let current = has-current c.requires.calls old c.args.answers.now c.requires.ready (and_parts _ _ can).0 in
-    let found = ap (value_of old.func.now c.args.answers.now) (sym c.operand_in.ensures)
-    ∙ ap (λ (f : Body). value_of f c.args.answers.now c.operand_in.result) (sym c.func.ensures) ∙ sym c.value_named.ensures ∙ c.in-Some.is in
+    let found = ap (value_of old.func.now c.args.answers.now) (sym c.operand_in-name.ensures)
+    ∙ ap (λ (f : Body). value_of f c.args.answers.now c.operand_in-name.result) (sym c.func.ensures) ∙ sym c.value_named.ensures ∙ c.in-Some.is in
     let built = subst (λ (r : Result ℕ BuildError). BuildsEmission c.args.call c.in-Some.x old new r) c.in_ok-value.was c.emit.ensures.built in
     let made = emission-made c.args.call c.in-Some.x old new current.0 current.1 c.requires.sound value built in
     subst (λ (a : Answer). MakesEmission c.args.call old new c.args.answers.now (Ok a)) (sym c.one_value.ensures)

@@ -171,11 +171,19 @@ returns-in-Err-clause-table_full c = λ told.
           (in-step-numbers c.args.config declared (calls_before c.args.config declared calls place) builder _ before) (made.full (ap Err is_full));
     }
 
-pub returns-in_err-push-in-Ok : goal.returns-in_err-push-in-Ok
-returns-in_err-push-in-Ok c =
+pub returns-in_err-note_call-in-Ok : goal.returns-in_err-note_call-in-Ok
+returns-in_err-note_call-in-Ok c =
     let p = err_from_is_err_and c.from_residual.result c.from_residual.ensures.1 in
     let step_made = step c.args.config c.index-calls-place.result c.loop-place.builder c.make_call.new.builder _ (Ok c.in-Ok.answer) c.in-Ok.ensures in
     let made = made-memory c.args.config c.args.calls.now c.args.builder.now c.make_call.new.builder c.from_residual.result (p.1 ∙ ap Err p.2)
+    (loans-then c.args.builder.now c.loop-place.builder c.make_call.new.builder c.loop-place.invariant.loans step_made.loans) in
+    record { loans = made.loans; name = made.name; ready = made.ready; sound = made.sound; misuse = made.misuse; judged = made.judged; tried = made.tried; refused = made.refused; table_full = made.table_full }
+
+pub returns-in_err-push-in-Ok : goal.returns-in_err-push-in-Ok
+returns-in_err-push-in-Ok c =
+    let p = err_from_is_err_and c.from_residual-in_err-push-in-Ok.result c.from_residual-in_err-push-in-Ok.ensures.1 in
+    let step_made = step c.args.config c.index-calls-place.result c.loop-place.builder c.make_call.new.builder _ (Ok c.in-Ok.answer) c.in-Ok.ensures in
+    let made = made-memory c.args.config c.args.calls.now c.args.builder.now c.make_call.new.builder c.from_residual-in_err-push-in-Ok.result (p.1 ∙ ap Err p.2)
     (loans-then c.args.builder.now c.loop-place.builder c.make_call.new.builder c.loop-place.invariant.loans step_made.loans) in
     record { loans = made.loans; name = made.name; ready = made.ready; sound = made.sound; misuse = made.misuse; judged = made.judged; tried = made.tried; refused = made.refused; table_full = made.table_full }
 
