@@ -17,10 +17,17 @@ pub fn write_values<W: fmt::Write>(f: &mut fmt::Formatter<W>, values: &[Value]) 
         if place > 0 {
             f.write_str(", ")?;
         }
-        let value = *value;
-        write!(f, "{value}")?;
+        write_value(f, *value)?;
     }
     Ok(())
+}
+
+// A value, as it prints itself. Most of a text is values, and by pieces of a format one takes half as much time again.
+#[inline(always)]
+fn write_value<W: fmt::Write>(f: &mut fmt::Formatter<W>, value: Value) -> fmt::Result {
+    let number = value.as_u32();
+    f.write_str("v")?;
+    write!(f, "{number}")
 }
 
 /// The operands and then the edges, after a space and joined by `, `; nothing where there are none.
@@ -39,7 +46,10 @@ pub fn write_operands<W: fmt::Write>(
     }
     f.write_str(" ")?;
     write_values(f, operands)?;
-    if !operands.is_empty() && !edges.is_empty() {
+    if edges.is_empty() {
+        return Ok(());
+    }
+    if !operands.is_empty() {
         f.write_str(", ")?;
     }
     write_edges(f, edges)
