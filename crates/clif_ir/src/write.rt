@@ -208,10 +208,7 @@ fn write_suffix<W: fmt::Write>(
     let shape = func.inst_data(inst);
     match shape.control() {
         Control::Absent => Ok(()),
-        Control::Given => {
-            let ty = result_type(func, inst);
-            write!(f, ".{ty}")
-        }
+        Control::Given => write_type(f, result_type(func, inst)),
         Control::Operand(place) => match shape.arguments().get(place) {
             Some(operand) => write_type_elsewhere(f, func, inst, *operand),
             None => Ok(()),
@@ -232,8 +229,12 @@ fn write_type_elsewhere<W: fmt::Write>(
     if home(func, operand) == func.inst_block(inst) {
         return Ok(());
     }
-    let ty = func.value_type(operand);
-    write!(f, ".{ty}")
+    write_type(f, func.value_type(operand))
+}
+
+fn write_type<W: fmt::Write>(f: &mut fmt::Formatter<W>, ty: Type) -> fmt::Result {
+    f.write_str(".")?;
+    write!(f, "{ty}")
 }
 
 // The block in which a value is defined.
@@ -257,7 +258,9 @@ fn write_comment<W: fmt::Write>(
 {
     let mut separator = "  ; ";
     for value in shape.arguments().iter() {
-        separator = write_constant(f, func, *value, separator)?;
+        if let Some(constant) = constant_of(func, *value) {
+            separator = write_constant(f, func, *value, constant, separator)?;
+        }
     }
     for edge in shape.branch_destination().iter() {
         separator = write_edge_constants(f, func, edge, separator)?;
@@ -277,26 +280,43 @@ fn write_edge_constants<'a, W: fmt::Write>(
     let mut separator = separator;
     for arg in edge.args.as_slice().iter() {
         if let BlockArg::Value(value) = arg {
-            separator = write_constant(f, func, *value, separator)?;
+            if let Some(constant) = constant_of(func, *value) {
+                separator = write_constant(f, func, *value, constant, separator)?;
+            }
         }
     }
     Ok(separator)
 }
 
-// The part of a comment on one value, if an `iconst`, a float constant or a pooled constant makes it; answers what goes before
-// the next part.
+// The instruction that makes a value, if it is an `iconst`, a float constant or a pooled constant. Most operands are
+// none, which is seen without a call.
+#[inline(always)]
+fn constant_of(func: &Function, value: Value) -> Option<&InstructionData>
+    requires { value < length func.now.values }
+{
+    let ValueDef::Result(inst, _) = func.value_def(value) else {
+        return None;
+    };
+    let shape = func.inst_data(inst);
+    match shape {
+        InstructionData::UnaryImm { .. }
+        | InstructionData::UnaryIeee { .. }
+        | InstructionData::UnaryConst { .. } => Some(shape),
+        _ => None,
+    }
+}
+
+// The part of a comment on one value, which the constant `shape` makes; answers what goes before the next part.
 fn write_constant<'a, W: fmt::Write>(
     f: &mut fmt::Formatter<W>,
     func: &Function,
     value: Value,
+    shape: &InstructionData,
     separator: &'a str,
 ) -> Result<&'a str, fmt::Error>
     requires { value < length func.now.values }
 {
-    let ValueDef::Result(inst, _) = func.value_def(value) else {
-        return Ok(separator);
-    };
-    match func.inst_data(inst) {
+    match shape {
         InstructionData::UnaryImm { imm } => {
             let number = Imm64(signed_at(*imm, func.value_type(value)));
             write!(f, "{separator}{value} = {number}")?;
@@ -313,7 +333,8 @@ fn write_constant<'a, W: fmt::Write>(
     Ok(", ")
 }
 
-// The alias lines of each of these values, in order.
+// The alias lines of each of these values, in order. Most functions have none, which is seen without a call.
+#[inline(always)]
 fn write_alias_lines<W: fmt::Write>(
     f: &mut fmt::Formatter<W>,
     func: &Function,
@@ -324,6 +345,16 @@ fn write_alias_lines<W: fmt::Write>(
     if func.aliases.is_empty() {
         return Ok(());
     }
+    write_aliases_of_each(f, func, values)
+}
+
+fn write_aliases_of_each<W: fmt::Write>(
+    f: &mut fmt::Formatter<W>,
+    func: &Function,
+    values: &[Value],
+) -> fmt::Result
+    requires { EachIndex values.now (λ k. slice_index values.now k < length func.now.values) }
+{
     for value in values.iter() {
         write_aliases_of(f, func, *value)?;
     }
