@@ -8,10 +8,12 @@
 //! Nothing here takes memory or recurses: alias lines are found by a walk over each value's aliases, in
 //! order. It is proved that each call is safe and ends, and tested which text it writes.
 ghost use Rattle.std.specs.Prelude.{ℕ, ◌≡◌, ◌<◌, length, EachIndex, All, slice_index};
+ghost use Rattle.clif_ir.specs.Body.{resolved};
 ghost use Rattle.clif_ir.specs.Consistent.{EdgeExists};
+ghost use Rattle.clif_ir.specs.Reading.{DefExists, def_of};
 ghost use Rattle.clif_instructions.specs.Instruction.{operands, destinations};
 
-use crate::function::{Function, ValueDef};
+use crate::function::Function;
 use clif_inst_text::calls::{
     is_call, write_call, write_call_of_address, write_exceptions, write_stack_map,
 };
@@ -21,6 +23,7 @@ use clif_inst_text::operands::{
 use clif_instructions::block_call::{BlockArg, BlockCall};
 use clif_instructions::immediates::{Imm64, signed_at};
 use clif_instructions::instructions::InstructionData;
+use clif_nodes::ValueOrigin;
 use clif_nodes::aliases::AliasOrder;
 use clif_opcodes::Control;
 use clif_types::{Block, EntityRef, Inst, Type, Value};
@@ -241,10 +244,21 @@ fn write_type<W: fmt::Write>(f: &mut fmt::Formatter<W>, ty: Type) -> fmt::Result
 fn home(func: &Function, value: Value) -> Option<Block>
     requires { value < length func.now.values }
 {
-    match func.value_def(value) {
-        ValueDef::Result(source, _) => func.inst_block(source),
-        ValueDef::Param(block, _) => Some(block),
+    match origin(func, value) {
+        ValueOrigin::Result(source, _) => func.inst_block(source),
+        ValueOrigin::Param(block) => Some(block),
+        ValueOrigin::Alias(_) => None,
     }
+}
+
+// Where the value that `value` stands for comes from. Of a parameter, `value_def` looks for the place among those of
+// its block too, by a walk that no text needs.
+fn origin(func: &Function, value: Value) -> ValueOrigin
+    requires { value < length func.now.values }
+    ensures { DefExists func.now (def_of func.now (resolved func.now value) result) }
+{
+    let resolved = func.resolve_aliases(value);
+    func.values[resolved.index()].origin
 }
 
 // A comment that names each operand, and then each argument of an edge, that stands for a constant.
@@ -294,7 +308,7 @@ fn write_edge_constants<'a, W: fmt::Write>(
 fn constant_of(func: &Function, value: Value) -> Option<&InstructionData>
     requires { value < length func.now.values }
 {
-    let ValueDef::Result(inst, _) = func.value_def(value) else {
+    let ValueOrigin::Result(inst, _) = origin(func, value) else {
         return None;
     };
     let shape = func.inst_data(inst);
