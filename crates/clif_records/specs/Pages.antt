@@ -72,6 +72,11 @@ abbrev pub IsAtHand : RecordMap → ℕ → PageAtHand → Type 0
 IsAtHand records variable at_hand =
     (b : ℕ) → page_number b ≡ at_hand.number → recorded_at records variable b ≡ kept_at (option_copied at_hand.page) (place_in_page b)
 
+-- a variable has no page with this number, so that nothing is recorded in its blocks
+abbrev pub HasNoPage : RecordMap → ℕ → ℕ → Type 0
+HasNoPage records variable number =
+    (b : ℕ) → page_number b ≡ number → recorded_at records variable b ≡ nothing_recorded
+
 -- the cell at a place keeps what a change makes of what it kept, which isn't nothing; the page's other cells stay
 abbrev pub ChangesCell : List Cell → List Cell → ℕ → (Recorded → Recorded) → Type 0
 ChangesCell old new place change =

@@ -1,10 +1,10 @@
 //! Tables of the construction: the records of a variable, the branches that lead to a block, and the
 //! parameters that wait in it.
-ghost use Rattle.std.specs.Prelude.{◌≡◌, ◌≢◌, ◌==◌, ◌&&◌, ◌↔◌, IsTrue, false, ℕ, [], ◌∷◌, ◌++◌, ◌<◌, ◌≤◌, ◌+◌, ◌⊎◌, ◌^◌, length, take, OnOk, OnErr, IfOk, IfSome, IfNone, Some, None, option_copied, if◌then◌else◌, slice_index, slice_index_or};
+ghost use Rattle.std.specs.Prelude.{◌≡◌, ◌≢◌, ◌==◌, ◌&&◌, ◌↔◌, IsTrue, true, false, ℕ, [], ◌∷◌, ◌++◌, ◌<◌, ◌≤◌, ◌+◌, ◌⊎◌, ◌^◌, length, take, OnOk, OnErr, IfOk, IfSome, IfNone, Some, None, option_copied, if◌then◌else◌, slice_index, slice_index_or};
 ghost use Rattle.clif_instructions.specs.Members.{Stands, place_of, stands_in, without};
 ghost use Rattle.std.specs.FinMap as map;
 ghost use Rattle.clif_records.specs.Branches.{branches_of};
-ghost use Rattle.clif_records.specs.Pages.{ChangesCell, HasPageAt, IsAtHand, added_by, is_nothing, kept_at, page_in, page_number, place_in_page, recorded_in};
+ghost use Rattle.clif_records.specs.Pages.{ChangesCell, HasNoPage, HasPageAt, IsAtHand, added_by, is_nothing, kept_at, page_in, page_number, place_in_page, recorded_in};
 ghost use Rattle.clif_records.specs.Records.{recording, counting, HasEntry, RecordsIn, RecordsUpTo, RecordsSome};
 ghost use Rattle.clif_records.specs.Tables.{No, Yes, recorded_at, record_at, lookups_at, one_more, known_at, sealed_at, predecessors_at, sealed_predecessors_at, is_yes, pending_of};
 
@@ -187,6 +187,15 @@ fn page_at(pages: &Pages, hint: usize, variable: Variable, number: u32) -> Optio
     }
 }
 
+/// What a search for the record of a variable in a block found.
+#[derive(Clone, Copy, Debug)]
+pub struct Searched {
+    /// The record, if there is one.
+    pub value: Option<Value>,
+    /// Whether there is no page that would have it. So long as the records stay, it needn't be searched again.
+    pub has_no_page: bool,
+}
+
 /// The page of a variable that was searched last, in which blocks beside one another have their cells.
 #[derive(Clone, Copy)]
 pub struct PageAtHand<'a> {
@@ -293,6 +302,28 @@ impl VariableTable {
         }
     }
 
+    /// The page that has the cell of a variable in a block, if there is one. It isn't searched where it is known that
+    /// there is none.
+    #[inline(always)]
+    pub fn page_unless_none(
+        &self,
+        variable: Variable,
+        block: Block,
+        has_no_page: bool,
+    ) -> PageAtHand<'_>
+        requires { has_no_page ≡ true → HasNoPage self.now variable (page_number block) }
+        ensures number { result.number ≡ page_number block }
+        ensures at_hand { IsAtHand self.now variable result }
+    {
+        if has_no_page {
+            return PageAtHand {
+                number: page_number(block),
+                page: None,
+            };
+        }
+        self.page_of(variable, block)
+    }
+
     // The page at hand, if it has the cell of a variable in a block, and otherwise the one that has.
     #[inline(always)]
     fn turned<'a>(
@@ -342,6 +373,20 @@ impl VariableTable {
         ensures { result ≡ record_at self.now variable block }
     {
         self.recorded(variable, block).value
+    }
+
+    /// The record of a variable in a block, and whether there is a page that would have it.
+    #[inline(always)]
+    pub fn search(&self, variable: Variable, block: Block) -> Searched
+        ensures exact { result.value ≡ record_at self.now variable block }
+        ensures no_page { result.has_no_page ≡ true
+            → HasNoPage self.now variable (page_number block) }
+    {
+        let at_hand = self.page_of(variable, block);
+        Searched {
+            value: at_hand.recorded(block).value,
+            has_no_page: at_hand.page.is_none(),
+        }
     }
 
     /// How many look-ups of a variable in a block's predecessors began.
@@ -584,6 +629,26 @@ impl Predecessors {
         }
     }
 
+    /// The branches, in order, where there is mostly one: that is tested for alone, with no jump to one of four cases.
+    #[inline(always)]
+    pub(crate) fn as_slice_of_one(&self) -> &[Inst]
+        ensures { result.now ≡ self.now }
+    {
+        match &self.branches {
+            Branches::One(branch) => slice::from_ref(branch),
+            _ => self.as_other_slice(),
+        }
+    }
+
+    // The branches, in order, by a call that stays one: it is seldom made, and so costs a walk no register.
+    #[cold]
+    #[inline(never)]
+    fn as_other_slice(&self) -> &[Inst]
+        ensures { result.now ≡ self.now }
+    {
+        self.as_slice()
+    }
+
     /// Puts a branch behind the others. After an error the list is as it was.
     pub(crate) fn push(&mut self, alloc: Global, branch: Inst) -> Result<(), BuildError>
         ensures ok { OnOk result (self.new ≡ self.old ++ branch ∷ []) }
@@ -769,6 +834,7 @@ impl BlockTable {
     }
 
     /// The branches that lead to a sealed block. Of an unsealed one none is answered.
+    #[inline(always)]
     pub fn sealed_predecessors(&self, block: Block) -> &[Inst]
         ensures { result.now ≡ sealed_predecessors_at self.now block }
     {
@@ -778,7 +844,7 @@ impl BlockTable {
                     state: RowState::Sealed,
                     predecessors,
                 },
-            ) => predecessors.as_slice(),
+            ) => predecessors.as_slice_of_one(),
             _ => &[],
         }
     }

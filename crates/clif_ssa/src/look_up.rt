@@ -1,8 +1,9 @@
 //! The machine that looks a variable up in blocks: the tables of the construction with two stacks, of calls and of results.
-ghost use Rattle.std.specs.Prelude.{◌≡◌, ◌<◌, List, [], ◌∷◌, Some, length, OnOk, IfOk, Contains, ◌-◌};
+ghost use Rattle.std.specs.Prelude.{◌≡◌, ◌<◌, List, [], ◌∷◌, Some, length, OnOk, IfOk, Contains, ◌-◌, true};
 ghost use Rattle.clif_ir.specs.Body.{value_at};
 ghost use Rattle.clif_ssa.specs.Constructs.{TellsMore};
 ghost use Rattle.clif_ssa.specs.Pools.{types_of, SealingIsFull, UseIsFull};
+ghost use Rattle.clif_records.specs.Pages.{HasNoPage, page_number};
 ghost use Rattle.clif_records.specs.declared.tables.Pending.{Pending};
 ghost use Rattle.clif_ssa.specs.Structure.{LooksOnce};
 ghost use Rattle.clif_ssa.specs.LookUp.{LooksUp, MakesCall, CompletesParameter};
@@ -20,7 +21,8 @@ use clif_records::tables::Pending;
 use clif_types::{Block, BuildError, Type, Value};
 
 impl SsaTables {
-    /// Looks a variable up in a block. `passed` is the room of the walk, and holds the blocks that it passed then.
+    /// Looks a variable up in a block. `has_no_page` tells whether the variable is known to have no page with the
+    /// block's cell. `passed` is the room of the walk, and holds the blocks that it passed then.
     #[inline(always)]
     pub(crate) fn look_up_in(
         &mut self,
@@ -28,18 +30,21 @@ impl SsaTables {
         variable: Variable,
         ty: Type,
         block: Block,
+        has_no_page: bool,
         passed: &mut PassedBlocks,
         look_up: &mut LookUp,
     ) -> Result<(), BuildError>
         requires exists { block < length func.old.blocks }
         requires named { NamesExist func.old self.old }
+        requires no_page { has_no_page ≡ true
+            → HasNoPage self.old.records variable (page_number block) }
         ensures looks { OnOk result (LooksUp variable ty block (stage func.old self.old look_up.old) (stage func.new self.new look_up.new)) }
         ensures keeps { StepKeeps variable ty func.old self.old func.new self.new }
         ensures tells { OnOk result (TellsMore func.old func.new look_up.old.zeros look_up.new.zeros) }
         ensures ends { StepEnds (UseIsFull ty) func.new result }
     {
         func.law_consistent();
-        let reached = self.walk(func, variable, block, passed)?;
+        let reached = self.walk(func, variable, block, has_no_page, passed)?;
         let Reached { block, recorded } = reached;
         let value = self.record_or_parameter(func, variable, ty, block, recorded, look_up)?;
         self.variables
@@ -47,6 +52,7 @@ impl SsaTables {
     }
 
     /// Makes calls until none is left, and returns the one result.
+    #[inline(always)]
     pub(crate) fn make_calls(
         &mut self,
         func: &mut Function,
@@ -94,7 +100,7 @@ impl SsaTables {
                 let Some(block) = func.inst_block(branch) else {
                     unreachable!()
                 };
-                self.look_up_in(func, variable, ty, block, passed, look_up)
+                self.look_up_in(func, variable, ty, block, false, passed, look_up)
             }
             Call::FinishPredecessorsLookup(param, block) => {
                 let predecessors = self.blocks.predecessors(block);

@@ -386,7 +386,8 @@ impl SSABuilder {
         ensures never_failed { result ≢ Err BuildError.Failed }
     {
         func.law_consistent();
-        if let Some(value) = self.tables.variables.get(variable, block) {
+        let searched = self.tables.variables.search(variable, block);
+        if let Some(value) = searched.value {
             return Ok((value, SideEffects::new(self.alloc)));
         }
         if self.tables.is_local(block) {
@@ -400,6 +401,7 @@ impl SSABuilder {
             variable,
             ty,
             block,
+            searched.has_no_page,
             &mut self.passed,
             &mut self.look_up,
         )?;

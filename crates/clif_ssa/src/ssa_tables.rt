@@ -2,6 +2,7 @@
 ghost use Rattle.std.specs.Prelude.{◌≡◌, ◌≢◌, ◌<◌, ◌+◌, ◌↔◌, ◌++◌, ◌⊎◌, [], IsTrue, length, Some, None, true, false, Contains, OnOk, OnErr, IfOk, IfSome};
 ghost use Rattle.clif_ir.specs.Changes.{with_param};
 ghost use Rattle.clif_ssa.specs.Constructs.{OnlyConstructs, TellsMore, TellsZeros};
+ghost use Rattle.clif_records.specs.Pages.{HasNoPage, page_number};
 ghost use Rattle.clif_records.specs.Tables.{is_yes};
 ghost use Rattle.clif_ssa.specs.Ssa.{no_state, MayBind, record_of, sealed_of, predecessors_of, completed, completing_blocks, CountsEach, HasMore, Named, Records, KnowsNoMore, SameRecords, SameBlocks, SamePredecessors, SameLookups, CountsLookup};
 ghost use Rattle.clif_ssa.specs.Moving.{LeadsOnce};
@@ -152,18 +153,21 @@ impl SsaTables {
 
     #[tactic(auto, using(crate::proofs::Walks::walk_rules))]
     /// Walks from a block along single predecessors, as long as the variable isn't recorded and no block
-    /// comes again, and answers the block that is reached. `passed` holds the blocks passed then. The
-    /// only error is `Memory`.
+    /// comes again, and answers the block that is reached. `passed` holds the blocks passed then. `has_no_page` tells
+    /// whether the variable is known to have no page with a cell of the first block. The only error is `Memory`.
     #[inline(always)]
     pub(crate) fn walk(
         &self,
         func: &Function,
         variable: Variable,
         block: Block,
+        has_no_page: bool,
         passed: &mut PassedBlocks,
     ) -> Result<Reached, BuildError>
         requires exists { block < length func.now.blocks }
         requires named { Named func.now self.now }
+        requires no_page { has_no_page ≡ true
+            → HasNoPage self.now.records variable (page_number block) }
         ensures ok { IfOk result
             (λ r. WalksTo func.now self.now variable block passed.new r.block) }
         ensures exists { IfOk result (λ r. r.block < length func.now.blocks) }
@@ -172,7 +176,9 @@ impl SsaTables {
     {
         passed.clear();
         let mut reached = block;
-        let mut at_hand = self.variables.page_of(variable, reached);
+        let mut at_hand = self
+            .variables
+            .page_unless_none(variable, reached, has_no_page);
         let mut recorded = self.variables.get_beside(variable, reached, &mut at_hand);
         while recorded.is_none() {
             let Some(before) = self.single_predecessor(func, reached) else {
