@@ -67,9 +67,10 @@ fn place_of(error: ReplayError) -> Option<usize> {
 fn tells_condition(rt: &impl Abort, alloc: Global, script: &Script) -> Result<(), Fail> {
     let mut ctx = FunctionBuilderContext::new(alloc);
     let mut notes = ReplayNotes::new(alloc);
-    let stopped = replayed(alloc, script, &mut ctx, &mut notes)?
-        .err()
-        .and_then(place_of);
+    let stopped = match replayed(alloc, script, &mut ctx, &mut notes)? {
+        Ok(_) => None,
+        Err(error) => place_of(error),
+    };
     assert_eq!(rt; notes.condition.is_some(), stopped.is_some());
     let made = stopped.unwrap_or(script.calls.len());
     assert_eq!(rt; notes.inst_counts.len(), made);
