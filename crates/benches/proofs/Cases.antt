@@ -10,24 +10,24 @@ use Rattle.clif_builder.specs.declared.builder.FunctionBuilder.{FunctionBuilder}
 use Rattle.clif_switch.specs.Emission.{MayLead}
 use Rattle.benches.specs.Cases.{AllLead}
 
-leads_either : (b : FunctionBuilder) (is_new : Bool) (kept : Option ℕ) (block found : ℕ) → MayLead b block → (kept ≡ Some found → MayLead b found)
+leads_either : {R : Type 0} (b : FunctionBuilder R) (is_new : Bool) (kept : Option ℕ) (block found : ℕ) → MayLead b block → (kept ≡ Some found → MayLead b found)
     → cond is_new (Some block) kept ≡ Some found → MayLead b found
 leads_either b true kept block found leads rest is = subst (λ (o : Option ℕ). IfSome o (MayLead b)) is leads
 leads_either b false kept block found leads rest is = rest is
 
-all_lead_in_new : (b : FunctionBuilder) (cases : CaseMap) (key block : ℕ) → AllLead cases b → MayLead b block → AllLead (map.insert cases key block) b
+all_lead_in_new : {R : Type 0} (b : FunctionBuilder R) (cases : CaseMap) (key block : ℕ) → AllLead cases b → MayLead b block → AllLead (map.insert cases key block) b
 all_lead_in_new b cases key block all leads other found is =
     leads_either b (eq_by_cmp nat_cmp other key) (map.get cases other) block found leads (all other found)
     (sym (get-insert nat_cmp_total cases key block other) ∙ is)
 
-pub all_lead_after : {A E : Type 0} (b : FunctionBuilder) (before after : CaseMap) (key block : ℕ) (answer : Result A E) → AllLead before b → MayLead b block
+pub all_lead_after : {A E : Type 0} {R : Type 0} (b : FunctionBuilder R) (before after : CaseMap) (key block : ℕ) (answer : Result A E) → AllLead before b → MayLead b block
     → OnOk answer (after ≡ map.insert before key block) → OnErr answer (after ≡ before) → AllLead after b
 all_lead_after b before after key block (Ok x) all leads ok err = subst (λ (cases : CaseMap). AllLead cases b) (sym ok) (all_lead_in_new b before key block all leads)
 all_lead_after b before after key block (Err e) all leads ok err = subst (λ (cases : CaseMap). AllLead cases b) (sym err) all
 
-no_case : (b : FunctionBuilder) (found : ℕ) → None ≡ Some found → MayLead b found
+no_case : {R : Type 0} (b : FunctionBuilder R) (found : ℕ) → None ≡ Some found → MayLead b found
 no_case b found e = absurd cc
 
-pub none_lead : (cases : CaseMap) → cases ≡ map.empty → (b : FunctionBuilder) → AllLead cases b
+pub none_lead : {R : Type 0} (cases : CaseMap) → cases ≡ map.empty → (b : FunctionBuilder R) → AllLead cases b
 none_lead cases none b key found is =
     no_case b found (sym (get-empty {X = ℕ} nat_cmp key) ∙ sym (ap (λ (m : CaseMap). map.get m key) none) ∙ is)

@@ -49,8 +49,8 @@ pub fn variable(number: usize) -> Variable
 
 /// Declares the eight variables.
 pub fn declare_all(builder: &mut FunctionBuilder<'_>) -> Result<(), Fault>
-    requires { builder.old.ctx.now.variables ≡ [] }
-    ensures { OnOk result (builder.new.ctx.now.variables ≡ eight) }
+    requires { builder.old.ctx.now.parts.variables ≡ [] }
+    ensures { OnOk result (builder.new.ctx.now.parts.variables ≡ eight) }
 {
     builder.declare_var(I32)?;
     builder.declare_var(I32)?;
@@ -77,7 +77,7 @@ pub(crate) fn open(builder: &FunctionBuilder<'_>) -> Result<(), Fault>
 // A block exists and isn't sealed.
 pub(crate) fn unsealed(builder: &FunctionBuilder<'_>, block: Block) -> Result<(), Fault>
     ensures exists { OnOk result (block < length builder.now.func.now.blocks) }
-    ensures unsealed { OnOk result (is_yes (sealed_of builder.now.ctx.now.ssa block) ≡ false) }
+    ensures unsealed { OnOk result (is_yes (sealed_of builder.now.ctx.now.parts.ssa block) ≡ false) }
 {
     if block.index() >= builder.func().block_count() || builder.is_sealed(block) {
         return Err(Fault::Misuse);
@@ -97,14 +97,14 @@ pub(crate) fn exists(builder: &FunctionBuilder<'_>, value: Value) -> Result<(), 
 
 /// A new block.
 pub fn create(builder: &mut FunctionBuilder<'_>) -> Result<Block, Fault>
-    ensures { builder.new.ctx.now.variables ≡ builder.old.ctx.now.variables }
+    ensures { builder.new.ctx.now.parts.variables ≡ builder.old.ctx.now.parts.variables }
 {
     Ok(builder.create_block()?)
 }
 
 /// Goes on in a block, where the one before is filled.
 pub fn enter(builder: &mut FunctionBuilder<'_>, block: Block) -> Result<(), Fault>
-    ensures { builder.new.ctx.now.variables ≡ builder.old.ctx.now.variables }
+    ensures { builder.new.ctx.now.parts.variables ≡ builder.old.ctx.now.parts.variables }
 {
     if block.index() >= builder.func().block_count() || builder.is_filled(block) {
         return Err(Fault::Misuse);
@@ -120,7 +120,7 @@ pub fn enter(builder: &mut FunctionBuilder<'_>, block: Block) -> Result<(), Faul
 
 /// Seals a block.
 pub fn seal(builder: &mut FunctionBuilder<'_>, block: Block) -> Result<(), Fault>
-    ensures { builder.new.ctx.now.variables ≡ builder.old.ctx.now.variables }
+    ensures { builder.new.ctx.now.parts.variables ≡ builder.old.ctx.now.parts.variables }
 {
     unsealed(builder, block)?;
     builder.seal_block(block)?;
@@ -129,8 +129,8 @@ pub fn seal(builder: &mut FunctionBuilder<'_>, block: Block) -> Result<(), Fault
 
 /// What a variable holds.
 pub fn read(builder: &mut FunctionBuilder<'_>, number: usize) -> Result<Value, Fault>
-    requires { builder.old.ctx.now.variables ≡ eight }
-    ensures { builder.new.ctx.now.variables ≡ builder.old.ctx.now.variables }
+    requires { builder.old.ctx.now.parts.variables ≡ eight }
+    ensures { builder.new.ctx.now.parts.variables ≡ builder.old.ctx.now.parts.variables }
 {
     open(builder)?;
     Ok(builder.use_var(variable(number))?)
@@ -138,8 +138,8 @@ pub fn read(builder: &mut FunctionBuilder<'_>, number: usize) -> Result<Value, F
 
 /// Assigns a value to a variable.
 pub fn assign(builder: &mut FunctionBuilder<'_>, number: usize, value: Value) -> Result<(), Fault>
-    requires { builder.old.ctx.now.variables ≡ eight }
-    ensures { builder.new.ctx.now.variables ≡ builder.old.ctx.now.variables }
+    requires { builder.old.ctx.now.parts.variables ≡ eight }
+    ensures { builder.new.ctx.now.parts.variables ≡ builder.old.ctx.now.parts.variables }
 {
     open(builder)?;
     exists(builder, value)?;
@@ -152,7 +152,7 @@ pub fn assign(builder: &mut FunctionBuilder<'_>, number: usize, value: Value) ->
 
 /// A constant.
 pub fn constant(builder: &mut FunctionBuilder<'_>, number: i64) -> Result<Value, Fault>
-    ensures { builder.new.ctx.now.variables ≡ builder.old.ctx.now.variables }
+    ensures { builder.new.ctx.now.parts.variables ≡ builder.old.ctx.now.parts.variables }
 {
     open(builder)?;
     Ok(builder.ins().iconst(I32, number)?)
@@ -160,7 +160,7 @@ pub fn constant(builder: &mut FunctionBuilder<'_>, number: i64) -> Result<Value,
 
 /// A sum.
 pub fn sum(builder: &mut FunctionBuilder<'_>, x: Value, y: Value) -> Result<Value, Fault>
-    ensures { builder.new.ctx.now.variables ≡ builder.old.ctx.now.variables }
+    ensures { builder.new.ctx.now.parts.variables ≡ builder.old.ctx.now.parts.variables }
 {
     open(builder)?;
     exists(builder, x)?;
@@ -170,7 +170,7 @@ pub fn sum(builder: &mut FunctionBuilder<'_>, x: Value, y: Value) -> Result<Valu
 
 /// A comparison.
 pub fn less(builder: &mut FunctionBuilder<'_>, x: Value, y: Value) -> Result<Value, Fault>
-    ensures { builder.new.ctx.now.variables ≡ builder.old.ctx.now.variables }
+    ensures { builder.new.ctx.now.parts.variables ≡ builder.old.ctx.now.parts.variables }
 {
     open(builder)?;
     exists(builder, x)?;
@@ -185,7 +185,7 @@ pub fn choose(
     x: Value,
     y: Value,
 ) -> Result<Value, Fault>
-    ensures { builder.new.ctx.now.variables ≡ builder.old.ctx.now.variables }
+    ensures { builder.new.ctx.now.parts.variables ≡ builder.old.ctx.now.parts.variables }
 {
     open(builder)?;
     exists(builder, condition)?;
@@ -196,7 +196,7 @@ pub fn choose(
 
 /// A value with zero bits above, of type I64.
 pub fn widen(builder: &mut FunctionBuilder<'_>, x: Value) -> Result<Value, Fault>
-    ensures { builder.new.ctx.now.variables ≡ builder.old.ctx.now.variables }
+    ensures { builder.new.ctx.now.parts.variables ≡ builder.old.ctx.now.parts.variables }
 {
     open(builder)?;
     exists(builder, x)?;
@@ -205,7 +205,7 @@ pub fn widen(builder: &mut FunctionBuilder<'_>, x: Value) -> Result<Value, Fault
 
 /// The low bits of a value, of type I32.
 pub fn narrow(builder: &mut FunctionBuilder<'_>, x: Value) -> Result<Value, Fault>
-    ensures { builder.new.ctx.now.variables ≡ builder.old.ctx.now.variables }
+    ensures { builder.new.ctx.now.parts.variables ≡ builder.old.ctx.now.parts.variables }
 {
     open(builder)?;
     exists(builder, x)?;
@@ -214,7 +214,7 @@ pub fn narrow(builder: &mut FunctionBuilder<'_>, x: Value) -> Result<Value, Faul
 
 /// The other bits.
 pub fn inverse(builder: &mut FunctionBuilder<'_>, x: Value) -> Result<Value, Fault>
-    ensures { builder.new.ctx.now.variables ≡ builder.old.ctx.now.variables }
+    ensures { builder.new.ctx.now.parts.variables ≡ builder.old.ctx.now.parts.variables }
 {
     open(builder)?;
     exists(builder, x)?;
@@ -223,7 +223,7 @@ pub fn inverse(builder: &mut FunctionBuilder<'_>, x: Value) -> Result<Value, Fau
 
 /// A float.
 pub fn float(builder: &mut FunctionBuilder<'_>) -> Result<Value, Fault>
-    ensures { builder.new.ctx.now.variables ≡ builder.old.ctx.now.variables }
+    ensures { builder.new.ctx.now.parts.variables ≡ builder.old.ctx.now.parts.variables }
 {
     open(builder)?;
     Ok(builder.ins().f64const(0x3ff0_0000_0000_0000)?)
@@ -231,7 +231,7 @@ pub fn float(builder: &mut FunctionBuilder<'_>) -> Result<Value, Fault>
 
 /// A trap where a value is zero.
 pub fn guard(builder: &mut FunctionBuilder<'_>, x: Value) -> Result<(), Fault>
-    ensures { builder.new.ctx.now.variables ≡ builder.old.ctx.now.variables }
+    ensures { builder.new.ctx.now.parts.variables ≡ builder.old.ctx.now.parts.variables }
 {
     open(builder)?;
     exists(builder, x)?;
@@ -241,7 +241,7 @@ pub fn guard(builder: &mut FunctionBuilder<'_>, x: Value) -> Result<(), Fault>
 
 /// Ends the current block with a jump.
 pub fn jump(builder: &mut FunctionBuilder<'_>, block: Block) -> Result<(), Fault>
-    ensures { builder.new.ctx.now.variables ≡ builder.old.ctx.now.variables }
+    ensures { builder.new.ctx.now.parts.variables ≡ builder.old.ctx.now.parts.variables }
 {
     open(builder)?;
     unsealed(builder, block)?;
@@ -256,7 +256,7 @@ pub fn branch(
     taken: Block,
     other: Block,
 ) -> Result<(), Fault>
-    ensures { builder.new.ctx.now.variables ≡ builder.old.ctx.now.variables }
+    ensures { builder.new.ctx.now.parts.variables ≡ builder.old.ctx.now.parts.variables }
 {
     open(builder)?;
     exists(builder, condition)?;
@@ -268,7 +268,7 @@ pub fn branch(
 
 /// Ends the current block with a return of a value.
 pub fn give_back(builder: &mut FunctionBuilder<'_>, value: Value) -> Result<(), Fault>
-    ensures { builder.new.ctx.now.variables ≡ builder.old.ctx.now.variables }
+    ensures { builder.new.ctx.now.parts.variables ≡ builder.old.ctx.now.parts.variables }
 {
     open(builder)?;
     exists(builder, value)?;
@@ -278,14 +278,14 @@ pub fn give_back(builder: &mut FunctionBuilder<'_>, value: Value) -> Result<(), 
 
 /// Imports a function that takes and returns nothing.
 pub fn import_first(alloc: Global, builder: &mut FunctionBuilder<'_>) -> Result<(), Fault>
-    ensures { builder.new.ctx.now.variables ≡ builder.old.ctx.now.variables }
+    ensures { builder.new.ctx.now.parts.variables ≡ builder.old.ctx.now.parts.variables }
 {
     import(builder, Signature::new(alloc, CallConv::SystemV))
 }
 
 /// Imports a function that takes four values of type I32 and returns one.
 pub fn import_of_four(alloc: Global, builder: &mut FunctionBuilder<'_>) -> Result<(), Fault>
-    ensures { builder.new.ctx.now.variables ≡ builder.old.ctx.now.variables }
+    ensures { builder.new.ctx.now.parts.variables ≡ builder.old.ctx.now.parts.variables }
 {
     match signature_of_four(alloc) {
         Ok(signature) => import(builder, signature),
@@ -304,7 +304,7 @@ fn signature_of_four(alloc: Global) -> Result<Signature, BuildError> {
 
 // Imports a function.
 fn import(builder: &mut FunctionBuilder<'_>, signature: Signature) -> Result<(), Fault>
-    ensures { builder.new.ctx.now.variables ≡ builder.old.ctx.now.variables }
+    ensures { builder.new.ctx.now.parts.variables ≡ builder.old.ctx.now.parts.variables }
 {
     let signature = builder.import_signature(signature)?;
     if signature.index() >= builder.func().tables().signature_count() {
@@ -321,7 +321,7 @@ fn import(builder: &mut FunctionBuilder<'_>, signature: Signature) -> Result<(),
 
 /// Calls the function that was imported first, which takes and returns nothing.
 pub fn call_first(builder: &mut FunctionBuilder<'_>) -> Result<(), Fault>
-    ensures { builder.new.ctx.now.variables ≡ builder.old.ctx.now.variables }
+    ensures { builder.new.ctx.now.parts.variables ≡ builder.old.ctx.now.parts.variables }
 {
     open(builder)?;
     if builder.func().tables().function_count() == 0 {
@@ -333,7 +333,7 @@ pub fn call_first(builder: &mut FunctionBuilder<'_>) -> Result<(), Fault>
 
 /// What the function that was imported first returns, which takes four values.
 pub fn call_of_four(builder: &mut FunctionBuilder<'_>, x: Value, y: Value) -> Result<Value, Fault>
-    ensures { builder.new.ctx.now.variables ≡ builder.old.ctx.now.variables }
+    ensures { builder.new.ctx.now.parts.variables ≡ builder.old.ctx.now.parts.variables }
 {
     open(builder)?;
     exists(builder, x)?;

@@ -28,7 +28,7 @@ pub fn copy(
     src: Value,
     size: u64,
 ) -> Result<(), Fault>
-    ensures { builder.new.ctx.now.variables ≡ builder.old.ctx.now.variables }
+    ensures { builder.new.ctx.now.parts.variables ≡ builder.old.ctx.now.parts.variables }
 {
     open(builder)?;
     pointer(builder, dest)?;
@@ -43,7 +43,7 @@ pub fn copy(
 
 /// A fill of so many bytes, of any alignment.
 pub fn fill(builder: &mut FunctionBuilder<'_>, buffer: Value, size: u64) -> Result<(), Fault>
-    ensures { builder.new.ctx.now.variables ≡ builder.old.ctx.now.variables }
+    ensures { builder.new.ctx.now.parts.variables ≡ builder.old.ctx.now.parts.variables }
 {
     open(builder)?;
     pointer(builder, buffer)?;
@@ -61,7 +61,7 @@ pub fn copy_by_call(
     src: Value,
     size: Value,
 ) -> Result<(), Fault>
-    ensures { builder.new.ctx.now.variables ≡ builder.old.ctx.now.variables }
+    ensures { builder.new.ctx.now.parts.variables ≡ builder.old.ctx.now.parts.variables }
 {
     open(builder)?;
     pointer(builder, dest)?;

@@ -46,8 +46,8 @@ const KEYS: [u128; 10] = [0, 1, 2, 3, 4, 5, 6, 7, 8, 20];
 
 // A variable gets the sum of itself and another one.
 fn add(builder: &mut FunctionBuilder<'_>, number: usize) -> Result<(), Fault>
-    requires { builder.old.ctx.now.variables ≡ eight }
-    ensures { builder.new.ctx.now.variables ≡ builder.old.ctx.now.variables }
+    requires { builder.old.ctx.now.parts.variables ≡ eight }
+    ensures { builder.new.ctx.now.parts.variables ≡ builder.old.ctx.now.parts.variables }
 {
     let x = read(builder, number)?;
     let y = read(builder, number / 8)?;
@@ -57,8 +57,8 @@ fn add(builder: &mut FunctionBuilder<'_>, number: usize) -> Result<(), Fault>
 
 // A variable gets what instructions of several formats make of itself and another one.
 fn mix(builder: &mut FunctionBuilder<'_>, number: usize) -> Result<(), Fault>
-    requires { builder.old.ctx.now.variables ≡ eight }
-    ensures { builder.new.ctx.now.variables ≡ builder.old.ctx.now.variables }
+    requires { builder.old.ctx.now.parts.variables ≡ eight }
+    ensures { builder.new.ctx.now.parts.variables ≡ builder.old.ctx.now.parts.variables }
 {
     let x = read(builder, number)?;
     let y = read(builder, number / 8)?;
@@ -74,8 +74,8 @@ fn mix(builder: &mut FunctionBuilder<'_>, number: usize) -> Result<(), Fault>
 
 // A variable gets what a function returns of itself and another one.
 fn call(builder: &mut FunctionBuilder<'_>, number: usize) -> Result<(), Fault>
-    requires { builder.old.ctx.now.variables ≡ eight }
-    ensures { builder.new.ctx.now.variables ≡ builder.old.ctx.now.variables }
+    requires { builder.old.ctx.now.parts.variables ≡ eight }
+    ensures { builder.new.ctx.now.parts.variables ≡ builder.old.ctx.now.parts.variables }
 {
     let x = read(builder, number)?;
     let y = read(builder, number / 8)?;
@@ -85,8 +85,8 @@ fn call(builder: &mut FunctionBuilder<'_>, number: usize) -> Result<(), Fault>
 
 // Bytes are moved and filled at the addresses that two variables hold.
 fn help(builder: &mut FunctionBuilder<'_>, number: usize) -> Result<(), Fault>
-    requires { builder.old.ctx.now.variables ≡ eight }
-    ensures { builder.new.ctx.now.variables ≡ builder.old.ctx.now.variables }
+    requires { builder.old.ctx.now.parts.variables ≡ eight }
+    ensures { builder.new.ctx.now.parts.variables ≡ builder.old.ctx.now.parts.variables }
 {
     let x = read(builder, number)?;
     let y = read(builder, number / 8)?;
@@ -99,7 +99,7 @@ fn help(builder: &mut FunctionBuilder<'_>, number: usize) -> Result<(), Fault>
 
 // A jump to a new block, which is entered, and sealed where it is asked for.
 fn go_on(builder: &mut FunctionBuilder<'_>, seals: bool) -> Result<(), Fault>
-    ensures { builder.new.ctx.now.variables ≡ builder.old.ctx.now.variables }
+    ensures { builder.new.ctx.now.parts.variables ≡ builder.old.ctx.now.parts.variables }
 {
     let next = create(builder)?;
     jump(builder, next)?;
@@ -116,8 +116,8 @@ fn arm(
     join: Block,
     number: Option<usize>,
 ) -> Result<(), Fault>
-    requires { builder.old.ctx.now.variables ≡ eight }
-    ensures { builder.new.ctx.now.variables ≡ builder.old.ctx.now.variables }
+    requires { builder.old.ctx.now.parts.variables ≡ eight }
+    ensures { builder.new.ctx.now.parts.variables ≡ builder.old.ctx.now.parts.variables }
 {
     seal(builder, block)?;
     enter(builder, block)?;
@@ -134,8 +134,8 @@ fn arms(
     other: Block,
     number: usize,
 ) -> Result<(), Fault>
-    requires { builder.old.ctx.now.variables ≡ eight }
-    ensures { builder.new.ctx.now.variables ≡ builder.old.ctx.now.variables }
+    requires { builder.old.ctx.now.parts.variables ≡ eight }
+    ensures { builder.new.ctx.now.parts.variables ≡ builder.old.ctx.now.parts.variables }
 {
     let join = create(builder)?;
     arm(builder, taken, join, Some(number))?;
@@ -145,8 +145,8 @@ fn arms(
 }
 
 fn diamond(builder: &mut FunctionBuilder<'_>, number: usize) -> Result<(), Fault>
-    requires { builder.old.ctx.now.variables ≡ eight }
-    ensures { builder.new.ctx.now.variables ≡ builder.old.ctx.now.variables }
+    requires { builder.old.ctx.now.parts.variables ≡ eight }
+    ensures { builder.new.ctx.now.parts.variables ≡ builder.old.ctx.now.parts.variables }
 {
     let taken = create(builder)?;
     let other = create(builder)?;
@@ -156,8 +156,8 @@ fn diamond(builder: &mut FunctionBuilder<'_>, number: usize) -> Result<(), Fault
 }
 
 fn switch_once(builder: &mut FunctionBuilder<'_>, number: usize) -> Result<(), Fault>
-    requires { builder.old.ctx.now.variables ≡ eight }
-    ensures { builder.new.ctx.now.variables ≡ builder.old.ctx.now.variables }
+    requires { builder.old.ctx.now.parts.variables ≡ eight }
+    ensures { builder.new.ctx.now.parts.variables ≡ builder.old.ctx.now.parts.variables }
 {
     let taken = create(builder)?;
     let other = create(builder)?;
@@ -167,8 +167,8 @@ fn switch_once(builder: &mut FunctionBuilder<'_>, number: usize) -> Result<(), F
 }
 
 fn loop_once(builder: &mut FunctionBuilder<'_>, number: usize) -> Result<(), Fault>
-    requires { builder.old.ctx.now.variables ≡ eight }
-    ensures { builder.new.ctx.now.variables ≡ builder.old.ctx.now.variables }
+    requires { builder.old.ctx.now.parts.variables ≡ eight }
+    ensures { builder.new.ctx.now.parts.variables ≡ builder.old.ctx.now.parts.variables }
 {
     let body = create(builder)?;
     let exit = create(builder)?;
@@ -184,8 +184,8 @@ fn loop_once(builder: &mut FunctionBuilder<'_>, number: usize) -> Result<(), Fau
 
 // What repeats.
 fn turn(builder: &mut FunctionBuilder<'_>, kind: Kind, number: usize) -> Result<(), Fault>
-    requires { builder.old.ctx.now.variables ≡ eight }
-    ensures { builder.new.ctx.now.variables ≡ builder.old.ctx.now.variables }
+    requires { builder.old.ctx.now.parts.variables ≡ eight }
+    ensures { builder.new.ctx.now.parts.variables ≡ builder.old.ctx.now.parts.variables }
 {
     match kind {
         Kind::Block | Kind::Rewritten => add(builder, number),
@@ -214,8 +214,8 @@ fn turn(builder: &mut FunctionBuilder<'_>, kind: Kind, number: usize) -> Result<
 
 // The first block assigns each variable.
 fn assign_all(builder: &mut FunctionBuilder<'_>) -> Result<(), Fault>
-    requires { builder.old.ctx.now.variables ≡ eight }
-    ensures { builder.new.ctx.now.variables ≡ builder.old.ctx.now.variables }
+    requires { builder.old.ctx.now.parts.variables ≡ eight }
+    ensures { builder.new.ctx.now.parts.variables ≡ builder.old.ctx.now.parts.variables }
 {
     for number in 0..8 {
         let value = constant(builder, 1)?;
@@ -226,7 +226,7 @@ fn assign_all(builder: &mut FunctionBuilder<'_>) -> Result<(), Fault>
 
 /// Makes a function of a kind, with so many turns, which returns a variable.
 pub fn make(builder: &mut FunctionBuilder<'_>, kind: Kind, turns: usize) -> Result<(), Fault>
-    requires { builder.old.ctx.now.variables ≡ eight }
+    requires { builder.old.ctx.now.parts.variables ≡ eight }
 {
     let entry = create(builder)?;
     seal(builder, entry)?;

@@ -49,6 +49,6 @@ pub fn live_across_calls(alloc: Global, func: &Function) -> Result<usize, BuildE
 pub fn spill_all(alloc: Global, func: &mut Function) -> Result<usize, BuildError> {
     let recorded = all_values(alloc, func)?;
     let mut spiller = SafepointSpiller::new(alloc);
-    spiller.run(func, &recorded, I64)?;
+    spiller.run(func, &recorded, I64, &None)?;
     Ok(func.tables().stack_slot_count())
 }

@@ -1,7 +1,7 @@
 //! Switches.
 ghost use Rattle.std.specs.Prelude.{◌≡◌, OnOk, IfOk};
 ghost use Rattle.clif_switch.specs.Emission.{MayLead};
-ghost use Rattle.benches.specs.Cases.{AllLead, AllLeadAnywhere};
+ghost use Rattle.benches.specs.Cases.{AllLead};
 
 use crate::calls::{Fault, exists, open, unsealed};
 use cranelift_frontend::{Block, FunctionBuilder, Switch, SwitchError, Value};
@@ -14,9 +14,9 @@ fn may_lead(builder: &FunctionBuilder<'_>, block: Block) -> Result<(), Fault>
     unsealed(builder, block)
 }
 
-// A switch without a case.
-fn no_case(alloc: Global) -> Switch
-    ensures { AllLeadAnywhere result }
+// A switch without a case, to be emitted by a builder.
+fn no_case(alloc: Global, _builder: &FunctionBuilder<'_>) -> Switch
+    ensures { AllLead result _builder.now }
 {
     Switch::new(alloc)
 }
@@ -54,7 +54,7 @@ fn switch_to(
 ) -> Result<Switch, Fault>
     ensures { IfOk result (λ switch. AllLead switch builder.now) }
 {
-    let mut switch = no_case(alloc);
+    let mut switch = no_case(alloc, builder);
     for place in 0..keys.len() {
         may_lead(builder, block)?;
         if let Err(error) = set_case(builder, &mut switch, keys[place], block) {
@@ -72,7 +72,7 @@ pub fn switch(
     taken: Block,
     other: Block,
 ) -> Result<(), Fault>
-    ensures { builder.new.ctx.now.variables ≡ builder.old.ctx.now.variables }
+    ensures { builder.new.ctx.now.parts.variables ≡ builder.old.ctx.now.parts.variables }
 {
     open(builder)?;
     exists(builder, value)?;

@@ -45,7 +45,7 @@ pub fn built(alloc: Global, text: &Script) -> Result<Function, Fail> {
     let (name, signature) = (text.name.clone()?, text.signature.clone()?);
     let mut ctx = FunctionBuilderContext::new(alloc);
     let calls = text.calls.as_slice();
-    Ok(replay(alloc, calls, name, signature, &mut ctx, text.config)?)
+    Ok(replay(alloc, calls, name, signature, &mut ctx, text.config, None)?)
 }
 
 /// What a run of a script or of its function is given. Stack slots lie in memory, too.

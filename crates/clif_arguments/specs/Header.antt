@@ -13,6 +13,8 @@ use Rattle.clif_types.specs.declared.target.PointerWidth.TheVariants.{U64}
 use Rattle.clif_calls.specs.declared.answer.Moves.{Moves}
 use Rattle.clif_calls.specs.declared.answer.Moves.TheVariants as moves
 use Rattle.clif_calls.specs.declared.answer.OutsideAnswer.{OutsideAnswer}
+use Rattle.clif_region_kinds.specs.declared.RegionKind.{RegionKind}
+use Rattle.clif_region_kinds.specs.declared.RegionKind.TheVariants as kind
 use Rattle.clif_arguments.specs.declared.header.Header.{Header}
 use Rattle.clif_words.specs.Spelling.{IsDecimal, IsMagnitude, IsNumber, IsTypeWord, pointer_text}
 
@@ -74,6 +76,15 @@ IsMovesLine words (moves.Add distance) = (word : List ℕ) × (words ≡ codes "
 IsMovesLine words moves.One = words ≡ codes "one" ∷ []
 IsMovesLine words moves.Events = words ≡ codes "events" ∷ []
 
+-- the words behind `region`: what a callback answers that is asked for the alias regions of accesses to stack slots
+abbrev pub IsRegionLine : List (List ℕ) → RegionKind → Type 0
+IsRegionLine words kind.Refuse = words ≡ codes "refuse" ∷ []
+IsRegionLine words (kind.Intern user_id) = (word : List ℕ) × (words ≡ codes "intern" ∷ word ∷ []) × IsMagnitude word user_id
+IsRegionLine words kind.Slot = words ≡ codes "slot" ∷ []
+IsRegionLine words kind.SlotNone = words ≡ codes "slot_none" ∷ []
+IsRegionLine words (kind.Const region) = (word : List ℕ) × (words ≡ codes "const" ∷ word ∷ []) × IsMagnitude word region
+IsRegionLine words (kind.Alternate user_id) = (word : List ℕ) × (words ≡ codes "alternate" ∷ word ∷ []) × IsMagnitude word user_id
+
 -- what header lines say
 pub record HeaderSaid : Type 0 where
   pub function : Option NamedSignature
@@ -83,10 +94,12 @@ pub record HeaderSaid : Type 0 where
   pub answers : List OutsideAnswer
   -- how a collector moves in a run
   pub moves : Option Moves
+  -- how a callback answers for alias regions
+  pub region : Option RegionKind
 
 -- no header line
 abbrev pub no_header : HeaderSaid
-no_header = record { function = None; pointer_width = None; call_conv = None; answers = []; moves = None }
+no_header = record { function = None; pointer_width = None; call_conv = None; answers = []; moves = None; region = None }
 
 -- what the header lines so far said
 abbrev pub header_said : Header → HeaderSaid
@@ -96,6 +109,7 @@ header_said header = record {
   call_conv = header.call_conv;
   answers = header.answers.items;
   moves = header.moves;
+  region = header.region;
 }
 
 -- the words are a header line, of a kind of which there was none, or one of `answer` or `throw`
@@ -105,8 +119,9 @@ IsHeader words old new =
     ⊎ (((width : PointerWidth) × (words ≡ codes "pointer" ∷ pointer_text width ∷ []) × (old.pointer_width ≡ None) × (new ≡ record old { pointer_width = Some width }))
     ⊎ (((conv : CallConv) × (words ≡ codes "conv" ∷ call_conv_text conv ∷ []) × (old.call_conv ≡ None) × (new ≡ record old { call_conv = Some conv }))
     ⊎ (((rest : List (List ℕ)) × (moves : Moves) × (words ≡ codes "moves" ∷ rest) × IsMovesLine rest moves × (old.moves ≡ None) × (new ≡ record old { moves = Some moves }))
+    ⊎ (((rest : List (List ℕ)) × (region : RegionKind) × (words ≡ codes "region" ∷ rest) × IsRegionLine rest region × (old.region ≡ None) × (new ≡ record old { region = Some region }))
     ⊎ (((rest : List (List ℕ)) × (answer : OutsideAnswer) × (words ≡ codes "throw" ∷ rest) × IsThrowLine rest answer × (new ≡ record old { answers = old.answers ++ answer ∷ [] }))
-    ⊎ ((rest : List (List ℕ)) × (answer : OutsideAnswer) × (words ≡ codes "answer" ∷ rest) × IsAnswerLine rest answer × (new ≡ record old { answers = old.answers ++ answer ∷ [] }))))))
+    ⊎ ((rest : List (List ℕ)) × (answer : OutsideAnswer) × (words ≡ codes "answer" ∷ rest) × IsAnswerLine rest answer × (new ≡ record old { answers = old.answers ++ answer ∷ [] })))))))
 
 -- the function's name, `u0:0` where no line says it
 abbrev pub name_in : Option NamedSignature → UserFuncName

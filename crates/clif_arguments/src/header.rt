@@ -2,14 +2,15 @@
 ghost use Rattle.std.specs.Prelude.{◌≡◌, ◌++◌, ◌∷◌, [], ℕ, List, None, Some, IfOk, IfSome, OnOk, codes};
 ghost use Rattle.clif_types.specs.Texts.{call_conv_text};
 ghost use Rattle.clif_words.specs.Cursor.{words_left};
-ghost use Rattle.clif_arguments.specs.Header.{AreNumbers, AreReturned, AreTypes, IsAnswerLine, IsFunction, IsFunctionName, IsMovesLine, IsSignature, IsThrowLine, IsUserName, name_in, signature_in};
+ghost use Rattle.clif_arguments.specs.Header.{AreNumbers, AreReturned, AreTypes, IsAnswerLine, IsFunction, IsFunctionName, IsMovesLine, IsRegionLine, IsSignature, IsThrowLine, IsUserName, name_in, signature_in};
 ghost use Rattle.clif_words.specs.Spelling.{IsMagnitude, IsNumber, pointer_text};
 
 use crate::refusals::unknown_type;
 use clif_calls::{Moves, OutsideAnswer};
+use clif_region_kinds::RegionKind;
 use clif_types::{
-    AbiParam, CallConv, PointerWidth, Signature, TargetFrontendConfig, UserExternalName,
-    UserFuncName,
+    AbiParam, AliasRegion, CallConv, PointerWidth, Signature, TargetFrontendConfig,
+    UserExternalName, UserFuncName,
 };
 use clif_words::cursor::Cursor;
 use clif_words::error::{Expected, Fault, LineError};
@@ -25,6 +26,7 @@ pub struct Header {
     call_conv: Option<CallConv>,
     answers: Vec<OutsideAnswer>,
     moves: Option<Moves>,
+    region: Option<RegionKind>,
 }
 
 // By hand: a derived one is proved anew at each way out of a function that holds such a value.
@@ -36,6 +38,7 @@ impl Drop for Header {
             call_conv: _,
             answers: _,
             moves: _,
+            region: _,
         } = self;
     }
 }
@@ -60,6 +63,7 @@ impl Header {
             call_conv: None,
             answers: Vec::new(alloc),
             moves: None,
+            region: None,
         }
     }
 
@@ -80,7 +84,8 @@ impl Header {
             "answer" => Ok(self.answers.push(answer_of(alloc, words)?)?),
             "throw" => Ok(self.answers.push(throw_of(alloc, words)?)?),
             "moves" => keep(&mut self.moves, moves_of(words)?, head),
-            _ => Err(LineError::Fault(Fault::NotSupported(head))),
+            "region" => keep(&mut self.region, region_of(words)?, head),
+            _ => Err(LineError::Fault(Fault::UnknownCall(head))),
         }
     }
 
@@ -103,6 +108,13 @@ impl Header {
         self.moves
     }
 
+    /// How a callback answers that is asked for alias regions; `None`, where no line says it: there is no callback.
+    pub fn region(&self) -> Option<RegionKind>
+        ensures { result ≡ (header_said self.now).region }
+    {
+        self.region
+    }
+
     /// How outside calls end in a run, of those functions of which a line says it, in the order of the lines. It is taken out.
     pub fn take_answers(&mut self, alloc: Global) -> Vec<OutsideAnswer>
         ensures answers { result.items ≡ (header_said self.old).answers }
@@ -123,6 +135,7 @@ impl Header {
             call_conv: _,
             answers: _,
             moves: _,
+            region: _,
         } = self;
         match function {
             Some(function) => function,
@@ -204,6 +217,41 @@ fn moves_of<'a>(words: &mut Cursor<'_, 'a>) -> Result<Moves, LineError<'a>>
     };
     words.end()?;
     Ok(moves)
+}
+
+// What a callback answers that is asked for alias regions.
+fn region_of<'a>(words: &mut Cursor<'_, 'a>) -> Result<RegionKind, LineError<'a>>
+    ensures { IfOk result (IsRegionLine (words_left words.old)) }
+{
+    let kind = match words.take(Expected::RegionKind)? {
+        "refuse" => RegionKind::Refuse,
+        "intern" => RegionKind::Intern(user_id_of(words.take(Expected::UserId)?)?),
+        "slot" => RegionKind::Slot,
+        "slot_none" => RegionKind::SlotNone,
+        "const" => RegionKind::Const(region_number_of(words.take(Expected::Region)?)?),
+        "alternate" => RegionKind::Alternate(user_id_of(words.take(Expected::UserId)?)?),
+        _ => return Err(LineError::wanted(Expected::RegionKind)),
+    };
+    words.end()?;
+    Ok(kind)
+}
+
+// The user id of a region.
+fn user_id_of(word: &str) -> Result<u32, LineError<'_>>
+    ensures { IfOk result (IsMagnitude word.now) }
+{
+    let number = magnitude(word).ok_or(LineError::wanted(Expected::UserId))?;
+    u32::try_from(number).map_err(|_| LineError::wanted(Expected::UserId))
+}
+
+// The number of a region.
+fn region_number_of(word: &str) -> Result<AliasRegion, LineError<'_>>
+    ensures { IfOk result (IsMagnitude word.now) }
+{
+    match magnitude(word) {
+        Some(number) if number < u64::from(u32::MAX) => Ok(AliasRegion::from_u32(number as u32)),
+        _ => Err(LineError::wanted(Expected::Region)),
+    }
 }
 
 // Numbers that end a line.

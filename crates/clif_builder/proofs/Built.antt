@@ -46,38 +46,38 @@ declared-seals (Err e) s t targets declares = tt
 declared-seals (Ok inst) s t targets declares = λ b. ap is_yes (blocks-along declares.told s t inst declares.along b)
 
 -- which blocks are filled when an instruction was appended to the current one
-appended-fills : (r : Result ℕ BuildError) (old new : FunctionBuilder) (block : ℕ) (shape : InstructionData) (ty : «Type») → old.position ≡ Some block → IfOk r (Appends old new block shape ty)
+appended-fills : {R : Type 0} (r : Result ℕ BuildError) (old new : FunctionBuilder R) (block : ℕ) (shape : InstructionData) (ty : «Type») → old.position ≡ Some block → IfOk r (Appends old new block shape ty)
     → OnOk r (FillsCurrent old new)
 appended-fills (Err e) old new block shape ty at appends = tt
 appended-fills (Ok inst) old new block shape ty at appends = λ b other filled.
     let apart : b ≢ block = λ same. other (at ∙ ap Some (sym same)) in
-    sym (appends.status b ∙ if-no (b == block) (status_after shape (status_of old.ctx.now block)) (status_of old.ctx.now b) (ne_eqb b block apart)) ∙ filled
+    sym (appends.status b ∙ if-no (b == block) (status_after shape (status_of old.ctx.now.parts block)) (status_of old.ctx.now.parts b) (ne_eqb b block apart)) ∙ filled
 
-appended-left : (r : Result ℕ BuildError) (old new : FunctionBuilder) (block : ℕ) (shape : InstructionData) (ty : «Type») → old.position ≡ Some block → new.position ≡ old.position
+appended-left : {R : Type 0} (r : Result ℕ BuildError) (old new : FunctionBuilder R) (block : ℕ) (shape : InstructionData) (ty : «Type») → old.position ≡ Some block → new.position ≡ old.position
     → is_terminator shape ≡ true → IfOk r (Appends old new block shape ty) → OnOk r (IsLeft new)
 appended-left (Err e) old new block shape ty at position ends appends = tt
 appended-left (Ok inst) old new block shape ty at position ends appends = record {
-  filled = subst (λ (o : Option ℕ). IfSome o (λ b. status_of new.ctx.now b ≡ Filled)) (sym (position ∙ at))
-      (appends.status block ∙ if-yes (block == block) (status_after shape (status_of old.ctx.now block)) (status_of old.ctx.now block) (eq-eqb block block refl)
-      ∙ ap (λ (t : Bool). if t then Filled else begun (status_of old.ctx.now block)) ends);
+  filled = subst (λ (o : Option ℕ). IfSome o (λ b. status_of new.ctx.now.parts b ≡ Filled)) (sym (position ∙ at))
+      (appends.status block ∙ if-yes (block == block) (status_after shape (status_of old.ctx.now.parts block)) (status_of old.ctx.now.parts block) (eq-eqb block block refl)
+      ∙ ap (λ (t : Bool). if t then Filled else begun (status_of old.ctx.now.parts block)) ends);
 }
 
 -- how many results it has
-appended-count : (r : Result ℕ BuildError) (old new : FunctionBuilder) (block : ℕ) (shape : InstructionData) (ty : «Type») → IfOk r (Appends old new block shape ty)
+appended-count : {R : Type 0} (r : Result ℕ BuildError) (old new : FunctionBuilder R) (block : ℕ) (shape : InstructionData) (ty : «Type») → IfOk r (Appends old new block shape ty)
     → IfOk r (λ inst. length (inst_at new.func.now inst).results ≡ count_of_results old.func.now.tables shape)
 appended-count (Err e) old new block shape ty appends = tt
 appended-count (Ok inst) old new block shape ty appends =
-    ap (λ (xs : List ℕ). length xs) (appended_range _ old.func.now old.ctx.now new.func.now new.ctx.now block shape ty inst appends)
+    ap (λ (xs : List ℕ). length xs) (appended_range _ old.func.now old.ctx.now.parts new.func.now new.ctx.now.parts block shape ty inst appends)
     ∙ range_count (length (inserted_in old.func.now block).values) (length (types_of_results old.func.now.tables shape ty)) ∙ length-types_of_results old.func.now.tables shape ty
 
 -- an instruction was appended to the current block, or that was refused
-module _ (old new : FunctionBuilder) (shape : InstructionData) (ty : «Type») (block : ℕ) (r : Result ℕ BuildError)
+module _ {R : Type 0} (old new : FunctionBuilder R) (shape : InstructionData) (ty : «Type») (block : ℕ) (r : Result ℕ BuildError)
     (sound : old.failed ≡ false) (current : HasCurrent old) (at : old.position ≡ Some block) (consistent : IsConsistent old.func.now)
     (operands_exist : All (λ value. value < length old.func.now.values) (operands shape)) (edges : All (CanLead old) (destinations shape)) (loans : SameLoans old new) (position : new.position ≡ old.position) (srcloc : new.srcloc ≡ old.srcloc)
     (fails : new.failed ≡ is_err r) (appends : IfOk r (Appends old new block shape ty))
-    (declares : IfOk r (λ inst. IsDeclared old.ctx.now.ssa inst (targets (destinations shape)) new.ctx.now.ssa))
-    (ssa : is_branch shape ≡ false → new.ctx.now.ssa ≡ old.ctx.now.ssa) (variables : SameVariables old.ctx.now new.ctx.now)
-    (full : r ≡ Err Full → HasNoRoom old.func.now (count_of_results old.func.now.tables shape)) (never_failed : r ≢ Err Failed) (looks_once : LooksOnce old.ctx.now.ssa → LooksOnce new.ctx.now.ssa) where
+    (declares : IfOk r (λ inst. IsDeclared old.ctx.now.parts.ssa inst (targets (destinations shape)) new.ctx.now.parts.ssa))
+    (ssa : is_branch shape ≡ false → new.ctx.now.parts.ssa ≡ old.ctx.now.parts.ssa) (variables : SameVariables old.ctx.now.parts new.ctx.now.parts)
+    (full : r ≡ Err Full → HasNoRoom old.func.now (count_of_results old.func.now.tables shape)) (never_failed : r ≢ Err Failed) (looks_once : LooksOnce old.ctx.now.parts.ssa → LooksOnce new.ctx.now.parts.ssa) where
   appends_at : IfSome old.position (λ block. IfOk r (Appends old new block shape ty))
   appends_at = subst (λ (o : Option ℕ). IfSome o (λ b. IfOk r (Appends old new b shape ty))) (sym at) appends
 
@@ -85,12 +85,12 @@ module _ (old new : FunctionBuilder) (shape : InstructionData) (ty : «Type») (
   abbrev Agrees : List AnsweredCall → List GivenEntry → Instruction Name Name → Option ℕ → Type 0
   Agrees calls entries instruction position =
       IfOk r (λ inst. LedgerAgrees (after_build calls entries instruction (numbers_of new inst))
-      (ledger_of (after_build calls entries instruction (numbers_of new inst))) new.func.now new.ctx.now position)
+      (ledger_of (after_build calls entries instruction (numbers_of new inst))) new.func.now new.ctx.now.parts position)
 
   agrees_after : (calls : List AnsweredCall) (entries : List GivenEntry) (instruction : Instruction Name Name) → AgreesWithLedger calls old
       → HasShape calls old.func.now instruction shape ty → Agrees calls entries instruction old.position
   agrees_after calls entries instruction agrees has =
-      ledger-shaped _ calls old.func.now new.func.now old.ctx.now new.ctx.now old.position block entries instruction shape ty r agrees at
+      ledger-shaped _ calls old.func.now new.func.now old.ctx.now.parts new.ctx.now.parts old.position block entries instruction shape ty r agrees at
       (current-is old current block at) consistent has edges appends declares ssa variables
 
   pub builds_appended : Builds old new shape ty r
@@ -112,22 +112,22 @@ module _ (old new : FunctionBuilder) (shape : InstructionData) (ty : «Type») (
         ledger = λ calls entries instruction agrees has.
             subst (Agrees calls entries instruction) (sym position) (agrees_after calls entries instruction agrees has);
         stands = λ signature calls entries instruction stands has.
-            subst (λ (o : Option ℕ). IfOk r (λ inst. StandsIn signature (after_build calls entries instruction (numbers_of new inst)) new.func.now new.ctx.now o))
+            subst (λ (o : Option ℕ). IfOk r (λ inst. StandsIn signature (after_build calls entries instruction (numbers_of new inst)) new.func.now new.ctx.now.parts o))
             (sym position)
-            (stands_shaped _ signature calls old.func.now new.func.now old.ctx.now new.ctx.now old.position entries instruction shape ty r block
+            (stands_shaped _ signature calls old.func.now new.func.now old.ctx.now.parts new.ctx.now.parts old.position entries instruction shape ty r block
             stands consistent has (λ k below. operands_exist k 0 below) at (current_exists old current block at) (current_open old current block at) appends edges declares ssa
             (agrees_after calls entries instruction stands.ledger has));
-        exists = append_exists _ r old.func.now old.ctx.now new.func.now new.ctx.now block shape ty appends;
+        exists = append_exists _ r old.func.now old.ctx.now.parts new.func.now new.ctx.now.parts block shape ty appends;
         results = appended-count r old new block shape ty appends;
-        grows = append_grows _ r old.func.now old.ctx.now new.func.now new.ctx.now block shape ty appends;
+        grows = append_grows _ r old.func.now old.ctx.now.parts new.func.now new.ctx.now.parts block shape ty appends;
         remembers = λ v b.
-            remembers_appended _ r v b old.func.now new.func.now old.ctx.now new.ctx.now block shape ty consistent appends declares;
+            remembers_appended _ r v b old.func.now new.func.now old.ctx.now.parts new.ctx.now.parts block shape ty consistent appends declares;
         current = λ goes_on. current_appended r old new shape ty current position appends_at goes_on;
-        types = appended-types _ r old.func.now old.ctx.now new.func.now new.ctx.now block shape ty appends;
-        seals = declared-seals r old.ctx.now.ssa new.ctx.now.ssa (targets (destinations shape)) declares;
+        types = appended-types _ r old.func.now old.ctx.now.parts new.func.now new.ctx.now.parts block shape ty appends;
+        seals = declared-seals r old.ctx.now.parts.ssa new.ctx.now.parts.ssa (targets (destinations shape)) declares;
         fills = appended-fills r old new block shape ty at appends;
         left = λ ends. appended-left r old new block shape ty at position ends appends;
-        free = λ ends. on_ok_step r _ _ (λ (left : IsLeft new). left-free new.position new.func.now new.ctx.now left.filled) (appended-left r old new block shape ty at position ends appends);
+        free = λ ends. on_ok_step r _ _ (λ (left : IsLeft new). left-free new.position new.func.now new.ctx.now.parts left.filled) (appended-left r old new block shape ty at position ends appends);
       }
 
 -- a result of these was refused
@@ -135,7 +135,7 @@ none_appended : {A : Type 0} (o : Option ℕ) (P : ℕ → A → Type 0) (e : Bu
 none_appended None P e = tt
 none_appended (Some block) P e = tt
 
-pub builds_value_refused : (old new : FunctionBuilder) (shape : InstructionData) (ty : «Type») (e : BuildError) → is_branch shape ≡ false → types_of_results old.func.now.tables shape ty ≡ result_type_of shape ty ∷ []
+pub builds_value_refused : {R : Type 0} (old new : FunctionBuilder R) (shape : InstructionData) (ty : «Type») (e : BuildError) → is_branch shape ≡ false → types_of_results old.func.now.tables shape ty ≡ result_type_of shape ty ∷ []
     → Builds old new shape ty (Err e) → BuildsValue old new shape ty (Err e)
 builds_value_refused old new shape ty e no_branch one built =
     let few : count_of_results old.func.now.tables shape ≤ 1 =
@@ -164,7 +164,7 @@ builds_value_refused old new shape ty e no_branch one built =
       fills = tt;
     }
 
-pub builds_pair_refused : (old new : FunctionBuilder) (shape : InstructionData) (ty : «Type») (e : BuildError) → is_branch shape ≡ false → count_of_results old.func.now.tables shape ≡ 2
+pub builds_pair_refused : {R : Type 0} (old new : FunctionBuilder R) (shape : InstructionData) (ty : «Type») (e : BuildError) → is_branch shape ≡ false → count_of_results old.func.now.tables shape ≡ 2
     → Builds old new shape ty (Err e) → BuildsPair old new shape ty (Err e)
 builds_pair_refused old new shape ty e no_branch two built =
     record {
@@ -197,7 +197,7 @@ builds_pair_refused old new shape ty e no_branch two built =
     number_error a b is = cc
 
 -- its result is answered
-module _ (old new : FunctionBuilder) (shape : InstructionData) (ty : «Type») (inst value : ℕ)
+module _ {R : Type 0} (old new : FunctionBuilder R) (shape : InstructionData) (ty : «Type») (inst value : ℕ)
     (current : HasCurrent old) (built : Builds old new shape ty (Ok inst)) (no_branch : is_branch shape ≡ false)
     (one : types_of_results old.func.now.tables shape ty ≡ result_type_of shape ty ∷ []) (goes_on : is_terminator shape ≡ false) (is : value ≡ length old.func.now.values)
     (exists : value < length new.func.now.values) where
@@ -234,11 +234,11 @@ module _ (old new : FunctionBuilder) (shape : InstructionData) (ty : «Type») (
     remembers = built.remembers;
     current = built.current goes_on;
     types = built.types;
-    typed = appended-typed _ old.func.now old.ctx.now new.func.now new.ctx.now current.0 shape ty (result_type_of shape ty) inst value
+    typed = appended-typed _ old.func.now old.ctx.now.parts new.func.now new.ctx.now.parts current.0 shape ty (result_type_of shape ty) inst value
         (at_current old (λ block. Appends old new block shape ty inst) current built.appends) one is;
-    fills = fills_none_begun old.ctx.now new.ctx.now current.0 (λ b.
+    fills = fills_none_begun old.ctx.now.parts new.ctx.now.parts current.0 (λ b.
         (at_current old (λ block. Appends old new block shape ty inst) current built.appends).status b
-        ∙ ap (λ s. if b == current.0 then s else status_of old.ctx.now b) (status_after_none shape (status_of old.ctx.now current.0) goes_on));
+        ∙ ap (λ s. if b == current.0 then s else status_of old.ctx.now.parts b) (status_after_none shape (status_of old.ctx.now.parts current.0) goes_on));
   }
 
 -- a list of two values, and what is known of each of its values
@@ -254,7 +254,7 @@ both_below xs a b bound are each =
     (here 0 (omega arith), here 1 (omega arith))
 
 -- its two results are answered
-module _ (old new : FunctionBuilder) (shape : InstructionData) (ty : «Type») (inst : ℕ) (pair : ℕ × ℕ)
+module _ {R : Type 0} (old new : FunctionBuilder R) (shape : InstructionData) (ty : «Type») (inst : ℕ) (pair : ℕ × ℕ)
     (current : HasCurrent old) (built : Builds old new shape ty (Ok inst)) (no_branch : is_branch shape ≡ false)
     (no_call : is_call shape ≡ false) (two : count_of_results old.func.now.tables shape ≡ 2) (goes_on : is_terminator shape ≡ false) (are : (inst_at new.func.now inst).results ≡ pair.0 ∷ pair.1 ∷ [])
     (exist : (pair.0 < length new.func.now.values) × (pair.1 < length new.func.now.values)) where
@@ -268,7 +268,7 @@ module _ (old new : FunctionBuilder) (shape : InstructionData) (ty : «Type») (
   -- they are the next values
   next : pair.0 ∷ pair.1 ∷ [] ≡ length old.func.now.values ∷ (length old.func.now.values + 1) ∷ []
   next =
-      sym are ∙ appended_range _ old.func.now old.ctx.now new.func.now new.ctx.now current.0 shape ty inst appended
+      sym are ∙ appended_range _ old.func.now old.ctx.now.parts new.func.now new.ctx.now.parts current.0 shape ty inst appended
       ∙ ap₂ range_with_len (values-inserted old.func.now current.0) (length-types_of_results old.func.now.tables shape ty ∙ two)
 
   first : pair.0 ≡ length old.func.now.values
@@ -310,9 +310,9 @@ module _ (old new : FunctionBuilder) (shape : InstructionData) (ty : «Type») (
     types = built.types;
     typed =
         ap (map (λ (value : ℕ). (value_at new.func.now value).ty)) (sym are)
-        ∙ appended-types-of _ old.func.now old.ctx.now new.func.now new.ctx.now current.0 shape ty inst appended
+        ∙ appended-types-of _ old.func.now old.ctx.now.parts new.func.now new.ctx.now.parts current.0 shape ty inst appended
         ∙ plain_types old.func.now.tables shape ty no_call;
-    fills = fills_none_begun old.ctx.now new.ctx.now current.0 (λ b.
+    fills = fills_none_begun old.ctx.now.parts new.ctx.now.parts current.0 (λ b.
         appended.status b
-        ∙ ap (λ s. if b == current.0 then s else status_of old.ctx.now b) (status_after_none shape (status_of old.ctx.now current.0) goes_on));
+        ∙ ap (λ s. if b == current.0 then s else status_of old.ctx.now.parts b) (status_after_none shape (status_of old.ctx.now.parts current.0) goes_on));
   }

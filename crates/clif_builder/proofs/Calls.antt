@@ -21,7 +21,7 @@ if_ok (Ok a) P here = here
 if_ok (Err e) P here = here
 
 -- a call with one way to be told, whatever it answers
-pub told : {A : Type 0} (old new : FunctionBuilder) (answer : Result A BuildError) (names : List AnsweredCall → Type 0) (call : AnsweredCall)
+pub told : {A : Type 0} {R : Type 0} (old new : FunctionBuilder R) (answer : Result A BuildError) (names : List AnsweredCall → Type 0) (call : AnsweredCall)
     → ((calls : List AnsweredCall) → AgreesWithLedger calls old → names calls → OnOk answer (AgreesWithLedger (calls ++ call ∷ []) new))
     → ((signature : SignatureShape) (calls : List AnsweredCall) → StandsFor signature calls old → names calls
     → OnOk answer (AgreesWithLedger (calls ++ call ∷ []) new) → OnOk answer (StandsFor signature (calls ++ call ∷ []) new))
@@ -33,7 +33,7 @@ told old new answer names call ledger stands =
     }
 
 -- a call that is told by what it answers
-pub told_by : {A : Type 0} (old new : FunctionBuilder) (answer : Result A BuildError) (names : List AnsweredCall → Type 0) (call : A → AnsweredCall)
+pub told_by : {A : Type 0} {R : Type 0} (old new : FunctionBuilder R) (answer : Result A BuildError) (names : List AnsweredCall → Type 0) (call : A → AnsweredCall)
     → ((calls : List AnsweredCall) → AgreesWithLedger calls old → names calls → IfOk answer (λ a. AgreesWithLedger (calls ++ call a ∷ []) new))
     → ((signature : SignatureShape) (calls : List AnsweredCall) → StandsFor signature calls old → names calls
     → IfOk answer (λ a. AgreesWithLedger (calls ++ call a ∷ []) new) → IfOk answer (λ a. StandsFor signature (calls ++ call a ∷ []) new))
@@ -45,9 +45,9 @@ told_by old new answer names call ledger stands =
     }
 
 -- a call of a builder that hasn't failed
-pub made : {A : Type 0} (old new : FunctionBuilder) (answer : Result A BuildError)
+pub made : {A : Type 0} {R : Type 0} (old new : FunctionBuilder R) (answer : Result A BuildError)
     → SameLoans old new → new.position ≡ old.position → new.srcloc ≡ old.srcloc → old.failed ≡ false → answer ≢ Err Failed → new.failed ≡ is_err answer
-    → (LooksOnce old.ctx.now.ssa → LooksOnce new.ctx.now.ssa) → OnOk answer (TypesStay old.func.now new.func.now) → OnOk answer (SameFilled old.ctx.now new.ctx.now)
+    → (LooksOnce old.ctx.now.parts.ssa → LooksOnce new.ctx.now.parts.ssa) → OnOk answer (TypesStay old.func.now new.func.now) → OnOk answer (SameFilled old.ctx.now.parts new.ctx.now.parts)
     → IsCall old new answer
 made {A} old new answer loans position srcloc fine never_failed fails looks_once types filled =
     record {
@@ -61,11 +61,11 @@ made {A} old new answer loans position srcloc fine never_failed fails looks_once
       types = types;
       fills = on_ok_step answer _ _ (λ same b. (same b).0) filled;
       left = λ left. on_ok_step answer _ _ (still left) filled;
-      free = λ left. on_ok_step answer _ _ (λ same. left-free new.position new.func.now new.ctx.now (still left same).filled) filled;
+      free = λ left. on_ok_step answer _ _ (λ same. left-free new.position new.func.now new.ctx.now.parts (still left same).filled) filled;
     }
   where
-    still : IsLeft old → SameFilled old.ctx.now new.ctx.now → IsLeft new
-    still left same = record { filled = still-left old.position new.position old.ctx.now new.ctx.now position same left.filled }
+    still : IsLeft old → SameFilled old.ctx.now.parts new.ctx.now.parts → IsLeft new
+    still left same = record { filled = still-left old.position new.position old.ctx.now.parts new.ctx.now.parts position same left.filled }
 
 -- what fails by memory alone doesn't fail because the builder failed before
 pub by_memory : {A : Type 0} (answer : Result A BuildError) → OnErr answer (answer ≡ Err Memory) → answer ≢ Err Failed
@@ -81,10 +81,10 @@ pub same_looks : (s t : SsaState) → t ≡ s → LooksOnce s → LooksOnce t
 same_looks s t is once = subst LooksOnce (sym is) once
 
 -- a builder that failed answers that it did, and stays as it is
-pub refused : {A : Type 0} (old : FunctionBuilder) → old.failed ≡ true → IsCall {A = A} old old (Err Failed)
+pub refused : {A : Type 0} {R : Type 0} (old : FunctionBuilder R) → old.failed ≡ true → IsCall {A = A} old old (Err Failed)
 refused old failed =
     record {
-      loans = record { func = refl; ctx = refl };
+      loans = record { func = refl; ctx = refl; region = refl };
       position = refl;
       srcloc = refl;
       failed = (λ is. failed, λ is. refl);
@@ -101,7 +101,7 @@ refused old failed =
 same_error : {A B : Type 0} (e x : BuildError) → ◌≡◌ {A = Result A BuildError} (Err e) (Err x) → ◌≡◌ {A = Result B BuildError} (Err e) (Err x)
 same_error e x same = let is : e ≡ x = cc in cc
 
-failed : {A B : Type 0} (old new : FunctionBuilder) (e : BuildError) → IsCall {A = A} old new (Err e) → IsCall {A = B} old new (Err e)
+failed : {A B : Type 0} {R : Type 0} (old new : FunctionBuilder R) (e : BuildError) → IsCall {A = A} old new (Err e) → IsCall {A = B} old new (Err e)
 failed old new e call =
     record {
       loans = call.loans;
@@ -117,7 +117,7 @@ failed old new e call =
       free = λ left. tt;
     }
 
-pub failed_as : {A B : Type 0} (old new : FunctionBuilder) (other : Result A BuildError) (answer : Result B BuildError) (e x : BuildError)
+pub failed_as : {A B : Type 0} {R : Type 0} (old new : FunctionBuilder R) (other : Result A BuildError) (answer : Result B BuildError) (e x : BuildError)
     → other ≡ Err e → answer ≡ Err x → x ≡ e → IsCall old new other → IsCall old new answer
 failed_as old new other answer e x was is same call =
     subst (IsCall old new) (sym (is ∙ ap Err same)) (failed old new e (subst (IsCall old new) was call))

@@ -28,38 +28,38 @@ tells_memory f recorded error is some = subst (λ (e : FinalizeError). TellsCont
 
 -- THE BUILDER -----------------------------------------------------------------------------------------------------------
 
-pub ends_failed : (b : FunctionBuilder) → b.failed ≡ true → Ends b (Err Failed)
+pub ends_failed : {R : Type 0} (b : FunctionBuilder R) → b.failed ≡ true → Ends b (Err Failed)
 ends_failed b failed =
-    subst (λ (test : Bool). EndsWith (verdict_of test b.ctx.now (length b.func.now.blocks)) b.func.now (recorded_of b.ctx.now.ssa.tracking) (Err Failed)) (sym failed) refl
+    subst (λ (test : Bool). EndsWith (verdict_of test b.ctx.now.parts (length b.func.now.blocks)) b.func.now (recorded_of b.ctx.now.parts.ssa.tracking) (Err Failed)) (sym failed) refl
 
 -- the blocks were looked at
-sound : (b : FunctionBuilder) (verdict answer : Result (Unit {0}) FinalizeError) → b.failed ≡ false → verdict ≡ answer_of (first_fault b.ctx.now 0 (length b.func.now.blocks))
-    → EndsWith verdict b.func.now (recorded_of b.ctx.now.ssa.tracking) answer → Ends b answer
+sound : {R : Type 0} (b : FunctionBuilder R) (verdict answer : Result (Unit {0}) FinalizeError) → b.failed ≡ false → verdict ≡ answer_of (first_fault b.ctx.now.parts 0 (length b.func.now.blocks))
+    → EndsWith verdict b.func.now (recorded_of b.ctx.now.parts.ssa.tracking) answer → Ends b answer
 sound b verdict answer fine is ends =
-    subst (λ (test : Bool). EndsWith (verdict_of test b.ctx.now (length b.func.now.blocks)) b.func.now (recorded_of b.ctx.now.ssa.tracking) answer) (sym fine)
-    (subst (λ (v : Result (Unit {0}) FinalizeError). EndsWith v b.func.now (recorded_of b.ctx.now.ssa.tracking) answer) is ends)
+    subst (λ (test : Bool). EndsWith (verdict_of test b.ctx.now.parts (length b.func.now.blocks)) b.func.now (recorded_of b.ctx.now.parts.ssa.tracking) answer) (sym fine)
+    (subst (λ (v : Result (Unit {0}) FinalizeError). EndsWith v b.func.now (recorded_of b.ctx.now.parts.ssa.tracking) answer) is ends)
 
-pub ends_lacking : (b : FunctionBuilder) (lack : FinalizeError) → b.failed ≡ false → Err lack ≡ answer_of (first_fault b.ctx.now 0 (length b.func.now.blocks)) → Ends b (Err lack)
+pub ends_lacking : {R : Type 0} (b : FunctionBuilder R) (lack : FinalizeError) → b.failed ≡ false → Err lack ≡ answer_of (first_fault b.ctx.now.parts 0 (length b.func.now.blocks)) → Ends b (Err lack)
 ends_lacking b lack fine is = sound b (Err lack) (Err lack) fine is refl
 
-pub ends_finished : (b : FunctionBuilder) (answer : Result (Unit {0}) FinalizeError) → b.failed ≡ false → Ok tt ≡ answer_of (first_fault b.ctx.now 0 (length b.func.now.blocks))
-    → TellsContext b.func.now (recorded_of b.ctx.now.ssa.tracking) answer → Ends b answer
+pub ends_finished : {R : Type 0} (b : FunctionBuilder R) (answer : Result (Unit {0}) FinalizeError) → b.failed ≡ false → Ok tt ≡ answer_of (first_fault b.ctx.now.parts 0 (length b.func.now.blocks))
+    → TellsContext b.func.now (recorded_of b.ctx.now.parts.ssa.tracking) answer → Ends b answer
 ends_finished b answer fine is tells = sound b (Ok tt) answer fine is tells
 
 -- where the parts are refused for nothing, no call failed
-pub sound_where_ok : (b : FunctionBuilder) (verdict : Result (Unit {0}) FinalizeError) → Ends b verdict → OnOk verdict (b.failed ≡ false)
+pub sound_where_ok : {R : Type 0} (b : FunctionBuilder R) (verdict : Result (Unit {0}) FinalizeError) → Ends b verdict → OnOk verdict (b.failed ≡ false)
 sound_where_ok b verdict ends = by b.failed verdict ends
   where
     by : (failed : Bool) (verdict : Result (Unit {0}) FinalizeError)
-        → EndsWith (verdict_of failed b.ctx.now (length b.func.now.blocks)) b.func.now (recorded_of b.ctx.now.ssa.tracking) verdict → OnOk verdict (failed ≡ false)
+        → EndsWith (verdict_of failed b.ctx.now.parts (length b.func.now.blocks)) b.func.now (recorded_of b.ctx.now.parts.ssa.tracking) verdict → OnOk verdict (failed ≡ false)
     by true verdict is = subst (λ (r : Result (Unit {0}) FinalizeError). OnOk r (true ≡ false)) (sym is) tt
     by false (Ok u) is = refl
     by false (Err e) is = tt
 
 -- what is answered after a verdict
-pub ends_after : (b : FunctionBuilder) (verdict answer : Result (Unit {0}) FinalizeError) → Ends b verdict → AnswersAfter verdict (recorded_in b) answer → Ends b answer
+pub ends_after : {R : Type 0} (b : FunctionBuilder R) (verdict answer : Result (Unit {0}) FinalizeError) → Ends b verdict → AnswersAfter verdict (recorded_in b) answer → Ends b answer
 ends_after b (Err lack) answer ends is = subst (Ends b) (sym is) ends
-ends_after b (Ok u) answer ends tells = by (verdict_of b.failed b.ctx.now (length b.func.now.blocks)) answer ends tells
+ends_after b (Ok u) answer ends tells = by (verdict_of b.failed b.ctx.now.parts (length b.func.now.blocks)) answer ends tells
   where
     of_spill : (v : ℕ) (recorded : List ℕ) (answer : Result (Unit {0}) FinalizeError) → IsFirstTracked b.func.now (v ∷ recorded) None → TellsSpill answer
         → TellsContext b.func.now (v ∷ recorded) answer
@@ -100,10 +100,10 @@ as_lacking (Ok u) f (Err Failed) never = absurd never
 -- WHATEVER IS RECORDED --------------------------------------------------------------------------------------------------
 
 -- what holds where the blocks lack nothing holds of an answer without error
-pub on_ok_ends : (b : FunctionBuilder) (answer : Result (Unit {0}) FinalizeError) (P : Type 0) → Ends b answer → OnOk (verdict_of b.failed b.ctx.now (length b.func.now.blocks)) P → OnOk answer P
-on_ok_ends b answer P ends holds = by (verdict_of b.failed b.ctx.now (length b.func.now.blocks)) answer ends holds
+pub on_ok_ends : {R : Type 0} (b : FunctionBuilder R) (answer : Result (Unit {0}) FinalizeError) (P : Type 0) → Ends b answer → OnOk (verdict_of b.failed b.ctx.now.parts (length b.func.now.blocks)) P → OnOk answer P
+on_ok_ends b answer P ends holds = by (verdict_of b.failed b.ctx.now.parts (length b.func.now.blocks)) answer ends holds
   where
-    by : (verdict answer : Result (Unit {0}) FinalizeError) → EndsWith verdict b.func.now (recorded_of b.ctx.now.ssa.tracking) answer → OnOk verdict P → OnOk answer P
+    by : (verdict answer : Result (Unit {0}) FinalizeError) → EndsWith verdict b.func.now (recorded_of b.ctx.now.parts.ssa.tracking) answer → OnOk verdict P → OnOk answer P
     by (Err lack) answer is p = subst (λ (r : Result (Unit {0}) FinalizeError). OnOk r P) (sym is) tt
     by (Ok u) (Ok v) tells p = p
     by (Ok u) (Err e) tells p = tt
@@ -117,19 +117,19 @@ on_ok_both (Ok u) both a b = both a b
 on_ok_both (Err e) both a b = tt
 
 -- what the blocks lack is answered
-lack_is_told : (b : FunctionBuilder) (answer : Result (Unit {0}) FinalizeError) (lack : FinalizeError) → Ends b answer
-    → verdict_of b.failed b.ctx.now (length b.func.now.blocks) ≡ Err lack → answer ≡ Err lack
+lack_is_told : {R : Type 0} (b : FunctionBuilder R) (answer : Result (Unit {0}) FinalizeError) (lack : FinalizeError) → Ends b answer
+    → verdict_of b.failed b.ctx.now.parts (length b.func.now.blocks) ≡ Err lack → answer ≡ Err lack
 lack_is_told b answer lack ends is =
-    subst (λ (verdict : Result (Unit {0}) FinalizeError). EndsWith verdict b.func.now (recorded_of b.ctx.now.ssa.tracking) answer) is ends
+    subst (λ (verdict : Result (Unit {0}) FinalizeError). EndsWith verdict b.func.now (recorded_of b.ctx.now.parts.ssa.tracking) answer) is ends
 
-refusal_is_told : (b : FunctionBuilder) (calls : List AnsweredCall) (answer : Result (Unit {0}) FinalizeError) (refusal : Refusal) → Ends b answer
-    → RefusalAgrees calls (Some refusal) (verdict_of b.failed b.ctx.now (length b.func.now.blocks)) → RefusalAgrees calls (Some refusal) answer
+refusal_is_told : {R : Type 0} (b : FunctionBuilder R) (calls : List AnsweredCall) (answer : Result (Unit {0}) FinalizeError) (refusal : Refusal) → Ends b answer
+    → RefusalAgrees calls (Some refusal) (verdict_of b.failed b.ctx.now.parts (length b.func.now.blocks)) → RefusalAgrees calls (Some refusal) answer
 refusal_is_told b calls answer (refused.Unsealed name) ends told = (told.0, told.1, lack_is_told b answer (Unsealed told.0) ends told.2)
 refusal_is_told b calls answer (refused.Unfilled name) ends told = (told.0, told.1, lack_is_told b answer (Unfilled told.0) ends told.2)
 
 -- and by what the ledger refuses
-pub ends_by_ledger : (b : FunctionBuilder) (calls : List AnsweredCall) (told : Option Refusal) (answer : Result (Unit {0}) FinalizeError) → Ends b answer
-    → RefusalAgrees calls told (verdict_of b.failed b.ctx.now (length b.func.now.blocks)) → EndsByLedger calls told b.func.now (recorded_in b) answer
+pub ends_by_ledger : {R : Type 0} (b : FunctionBuilder R) (calls : List AnsweredCall) (told : Option Refusal) (answer : Result (Unit {0}) FinalizeError) → Ends b answer
+    → RefusalAgrees calls told (verdict_of b.failed b.ctx.now.parts (length b.func.now.blocks)) → EndsByLedger calls told b.func.now (recorded_in b) answer
 ends_by_ledger b calls None answer ends fine =
     subst (λ (verdict : Result (Unit {0}) FinalizeError). EndsWith verdict b.func.now (recorded_in b) answer) fine ends
 ends_by_ledger b calls (Some refusal) answer ends told = refusal_is_told b calls answer refusal ends told

@@ -200,7 +200,7 @@ module _ (entry : TableEntry) (f g : Body) where
     alike = subst (λ (h : Body). StayAlike f h) (sym is) (λ u v alike. alike);
   }
 
-current_made : (entry : TableEntry) (old new : FunctionBuilder) (r : Result ℕ BuildError) → new.position ≡ old.position → new.ctx.now ≡ old.ctx.now
+current_made : {R : Type 0} (entry : TableEntry) (old new : FunctionBuilder R) (r : Result ℕ BuildError) → new.position ≡ old.position → new.ctx.now.parts ≡ old.ctx.now.parts
     → OnOk r (new.func.now ≡ with_more old.func.now entry) → HasCurrent old → OnOk r (HasCurrent new)
 current_made entry old new (Err e) position context is current = tt
 current_made entry old new (Ok n) position context is current = (
@@ -211,28 +211,28 @@ current_made entry old new (Ok n) position context is current = (
 )
 
 -- a call on a builder that hasn't failed
-pub entry_made : (entry : TableEntry) (old new : FunctionBuilder) (answer : Result ℕ BuildError) → old.failed ≡ false → IsConsistent old.func.now → SameLoans old new → new.position ≡ old.position → new.srcloc ≡ old.srcloc
-    → new.ctx.now ≡ old.ctx.now → new.failed ≡ is_err answer → MakesIn entry old.func.now new.func.now answer → MakesEntry entry old new answer
+pub entry_made : {R : Type 0} (entry : TableEntry) (old new : FunctionBuilder R) (answer : Result ℕ BuildError) → old.failed ≡ false → IsConsistent old.func.now → SameLoans old new → new.position ≡ old.position → new.srcloc ≡ old.srcloc
+    → new.ctx.now.parts ≡ old.ctx.now.parts → new.failed ≡ is_err answer → MakesIn entry old.func.now new.func.now answer → MakesEntry entry old new answer
 entry_made entry old new answer fine consistent loans position srcloc context fails makes =
-    let ssa : new.ctx.now.ssa ≡ old.ctx.now.ssa = ap (λ (c : ContextState). c.ssa) context in
+    let ssa : new.ctx.now.parts.ssa ≡ old.ctx.now.parts.ssa = ap (λ (c : ContextState). c.ssa) context in
     record {
-      call = calls.made old new answer loans position srcloc fine makes.never_failed fails (same_looks old.ctx.now.ssa new.ctx.now.ssa ssa)
-          (types_made entry old.func.now new.func.now answer makes.ok) (filled-same answer old.ctx.now new.ctx.now (ap (λ (c : ContextState). c.status) context));
+      call = calls.made old new answer loans position srcloc fine makes.never_failed fails (same_looks old.ctx.now.parts.ssa new.ctx.now.parts.ssa ssa)
+          (types_made entry old.func.now new.func.now answer makes.ok) (filled-same answer old.ctx.now.parts new.ctx.now.parts (ap (λ (c : ContextState). c.status) context));
       function = makes.ok;
       number = makes.number;
       kept = makes.err;
       context = context;
       full = (λ is. (fine, makes.full.0 is), λ both. makes.full.1 both.1);
       told = told_by old new answer (λ _. Unit {0}) (made entry)
-          (λ cs agrees _. ledger_made entry old.func.now new.func.now old.ctx.now new.ctx.now old.position new.position context position answer cs makes.ok makes.number agrees)
-          (λ signature cs stands _ _. stands_made entry old.func.now new.func.now old.ctx.now new.ctx.now old.position new.position context position answer signature cs consistent makes.ok makes.number stands);
+          (λ cs agrees _. ledger_made entry old.func.now new.func.now old.ctx.now.parts new.ctx.now.parts old.position new.position context position answer cs makes.ok makes.number agrees)
+          (λ signature cs stands _ _. stands_made entry old.func.now new.func.now old.ctx.now.parts new.ctx.now.parts old.position new.position context position answer signature cs consistent makes.ok makes.number stands);
       grows = grows_made entry old.func.now new.func.now answer makes.ok;
-      remembers = λ x b. remembers_made entry old.func.now new.func.now answer x b old.ctx.now.ssa new.ctx.now.ssa makes.ok ssa;
+      remembers = λ x b. remembers_made entry old.func.now new.func.now answer x b old.ctx.now.parts.ssa new.ctx.now.parts.ssa makes.ok ssa;
       current = current_made entry old new answer position context makes.ok;
     }
 
 -- a call on one that has
-pub entry_refused : (entry : TableEntry) (old : FunctionBuilder) → old.failed ≡ true → MakesEntry entry old old (Err Failed)
+pub entry_refused : {R : Type 0} (entry : TableEntry) (old : FunctionBuilder R) → old.failed ≡ true → MakesEntry entry old old (Err Failed)
 entry_refused entry old failed = record {
   call = refused old failed;
   function = tt;

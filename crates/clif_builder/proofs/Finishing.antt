@@ -152,37 +152,37 @@ module _ (declared : SignatureShape) (calls : List AnsweredCall) (f : Body) (c :
   }
 
 -- what holds of a finished function holds where `finalize` succeeds
-on_finished : (declared : SignatureShape) (calls : List AnsweredCall) (b : FunctionBuilder) → StandsFor declared calls b → IsConsistent b.func.now
-    → (P : Type 0) → (IsFinished calls b.func.now b.ctx.now.ssa → P) → OnOk (verdict_of b.failed b.ctx.now (length b.func.now.blocks)) P
+on_finished : {R : Type 0} (declared : SignatureShape) (calls : List AnsweredCall) (b : FunctionBuilder R) → StandsFor declared calls b → IsConsistent b.func.now
+    → (P : Type 0) → (IsFinished calls b.func.now b.ctx.now.parts.ssa → P) → OnOk (verdict_of b.failed b.ctx.now.parts (length b.func.now.blocks)) P
 on_finished declared calls b stands consistent P holds = by b.failed
   where
-    of_fault : (o : Option FinalizeError) → first_fault b.ctx.now 0 (length b.func.now.blocks) ≡ o → OnOk (answer_of o) P
+    of_fault : (o : Option FinalizeError) → first_fault b.ctx.now.parts 0 (length b.func.now.blocks) ≡ o → OnOk (answer_of o) P
     of_fault (Some fault) is = tt
-    of_fault None is = holds (is_finished declared calls b.func.now b.ctx.now b.position stands consistent is)
+    of_fault None is = holds (is_finished declared calls b.func.now b.ctx.now.parts b.position stands consistent is)
 
-    by : (failed : Bool) → OnOk (if failed then Err Failed else answer_of (first_fault b.ctx.now 0 (length b.func.now.blocks))) P
+    by : (failed : Bool) → OnOk (if failed then Err Failed else answer_of (first_fault b.ctx.now.parts 0 (length b.func.now.blocks))) P
     by true = tt
-    by false = of_fault (first_fault b.ctx.now 0 (length b.func.now.blocks)) refl
+    by false = of_fault (first_fault b.ctx.now.parts 0 (length b.func.now.blocks)) refl
 
 -- what is so of the function as it is found
-pub as_found : (declared : SignatureShape) (calls : List AnsweredCall) (b : FunctionBuilder) (width : PointerWidth) (stands : StandsFor declared calls b) (consistent : IsConsistent b.func.now)
-    → IsFinished calls b.func.now b.ctx.now.ssa → AsFound declared width calls b
+pub as_found : {R : Type 0} (declared : SignatureShape) (calls : List AnsweredCall) (b : FunctionBuilder R) (width : PointerWidth) (stands : StandsFor declared calls b) (consistent : IsConsistent b.func.now)
+    → IsFinished calls b.func.now b.ctx.now.parts.ssa → AsFound declared width calls b
 as_found declared calls b width stands consistent finished = record {
   moving = moving declared calls b width stands consistent finished;
   recorded = stands.ledger.tracks.exactly;
-  parameters = no_parameters calls b.func.now b.ctx.now.ssa stands.carries finished.none_waits;
-  edges_match = λ typed. standing_edges declared calls b.func.now b.ctx.now b.position stands finished.none_waits typed;
-  well_placed = λ premises. well_placed calls b.func.now b.ctx.now.ssa consistent (all premises) premises.given_before;
+  parameters = no_parameters calls b.func.now b.ctx.now.parts.ssa stands.carries finished.none_waits;
+  edges_match = λ typed. standing_edges declared calls b.func.now b.ctx.now.parts b.position stands finished.none_waits typed;
+  well_placed = λ premises. well_placed calls b.func.now b.ctx.now.parts.ssa consistent (all premises) premises.given_before;
   records_well_placed = λ records are premises.
-      records_well_placed calls b.func.now b.ctx.now.ssa consistent (all premises) premises.given_before records are;
+      records_well_placed calls b.func.now b.ctx.now.parts.ssa consistent (all premises) premises.given_before records are;
 }
   where
-    all : PlacementPremises (script_of calls) declared → Whole calls b.func.now b.ctx.now.ssa
-    all premises = whole calls b.func.now b.ctx.now.ssa consistent stands.carries (freed calls b.func.now b.ctx.now.ssa stands.carries premises.targets_filled)
+    all : PlacementPremises (script_of calls) declared → Whole calls b.func.now b.ctx.now.parts.ssa
+    all premises = whole calls b.func.now b.ctx.now.parts.ssa consistent stands.carries (freed calls b.func.now b.ctx.now.parts.ssa stands.carries premises.targets_filled)
 
 -- the construction is finished where `finalize` succeeds
-pub finished_where_ok : (declared : SignatureShape) (calls : List AnsweredCall) (b : FunctionBuilder) (answer : Result (Unit {0}) FinalizeError) → StandsFor declared calls b → IsConsistent b.func.now
-    → Ends b answer → OnOk answer (IsFinished calls b.func.now b.ctx.now.ssa)
+pub finished_where_ok : {R : Type 0} (declared : SignatureShape) (calls : List AnsweredCall) (b : FunctionBuilder R) (answer : Result (Unit {0}) FinalizeError) → StandsFor declared calls b → IsConsistent b.func.now
+    → Ends b answer → OnOk answer (IsFinished calls b.func.now b.ctx.now.parts.ssa)
 finished_where_ok declared calls b answer stands consistent ends =
-    on_ok_ends b answer (IsFinished calls b.func.now b.ctx.now.ssa) ends
-    (on_finished declared calls b stands consistent (IsFinished calls b.func.now b.ctx.now.ssa) (λ finished. finished))
+    on_ok_ends b answer (IsFinished calls b.func.now b.ctx.now.parts.ssa) ends
+    (on_finished declared calls b stands consistent (IsFinished calls b.func.now b.ctx.now.parts.ssa) (λ finished. finished))

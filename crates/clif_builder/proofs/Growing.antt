@@ -156,19 +156,19 @@ still_current o p f g c d position grows fills current =
     (current.0, position ∙ current.1, omega (arith, current.2, grows.2), λ filled. current.3 (fills current.0 filled))
 
 -- a fact of the current block
-pub at_current : (old : FunctionBuilder) (P : ℕ → Type 0) (current : HasCurrent old) → IfSome old.position P → P current.0
+pub at_current : {R : Type 0} (old : FunctionBuilder R) (P : ℕ → Type 0) (current : HasCurrent old) → IfSome old.position P → P current.0
 at_current old P current holds = let Q : Option ℕ → Type 0 = λ o. IfSome o P in subst Q current.1 holds
 
 -- where an instruction was appended that doesn't end its block
 pub status_after_none : (shape : InstructionData) (s : BlockStatus) → is_terminator shape ≡ false → status_after shape s ≡ begun s
 status_after_none shape s none = ap (λ t. if t then Filled else begun s) none
 
-pub current_appended : (r : Result ℕ BuildError) (old new : FunctionBuilder) (shape : InstructionData) (ty : «Type») → HasCurrent old → new.position ≡ old.position
+pub current_appended : {R : Type 0} (r : Result ℕ BuildError) (old new : FunctionBuilder R) (shape : InstructionData) (ty : «Type») → HasCurrent old → new.position ≡ old.position
     → IfSome old.position (λ block. IfOk r (Appends old new block shape ty)) → is_terminator shape ≡ false → OnOk r (HasCurrent new)
 current_appended r old new shape ty current position appends none =
     on_ok_from r _ _ (λ inst appended.
-    still_current old.position new.position old.func.now new.func.now old.ctx.now new.ctx.now position (appended_grows _ old.func.now old.ctx.now new.func.now new.ctx.now current.0 shape ty inst appended)
-    (fills_none_begun old.ctx.now new.ctx.now current.0 (λ b. appended.status b ∙ ap (λ s. if b == current.0 then s else status_of old.ctx.now b) (status_after_none shape (status_of old.ctx.now current.0) none))) current)
+    still_current old.position new.position old.func.now new.func.now old.ctx.now.parts new.ctx.now.parts position (appended_grows _ old.func.now old.ctx.now.parts new.func.now new.ctx.now.parts current.0 shape ty inst appended)
+    (fills_none_begun old.ctx.now.parts new.ctx.now.parts current.0 (λ b. appended.status b ∙ ap (λ s. if b == current.0 then s else status_of old.ctx.now.parts b) (status_after_none shape (status_of old.ctx.now.parts current.0) none))) current)
     (at_current old (λ block. IfOk r (Appends old new block shape ty)) current appends)
 
 -- the node of an instruction that was appended
@@ -202,13 +202,13 @@ appended_no_results place f c g d block shape ty inst appends types =
     ap (λ (n : InstNode). n.results) (appended_node _ f c g d block shape ty inst appends)
     ∙ ap (λ (ts : List «Type»). range_with_len (length (inserted_in f block).values) (length ts)) types
 
-pub current_results : (old new : FunctionBuilder) (shape : InstructionData) (ty result : «Type») (inst : ℕ) → HasCurrent old
+pub current_results : {R : Type 0} (old new : FunctionBuilder R) (shape : InstructionData) (ty result : «Type») (inst : ℕ) → HasCurrent old
     → IfSome old.position (λ block. Appends old new block shape ty inst) → types_of_results old.func.now.tables shape ty ≡ result ∷ [] → (inst_at new.func.now inst).results ≡ length old.func.now.values ∷ []
 current_results old new shape ty result inst current appends types =
-    appended_results _ old.func.now old.ctx.now new.func.now new.ctx.now current.0 shape ty result inst (at_current old (λ block. Appends old new block shape ty inst) current appends) types
+    appended_results _ old.func.now old.ctx.now.parts new.func.now new.ctx.now.parts current.0 shape ty result inst (at_current old (λ block. Appends old new block shape ty inst) current appends) types
 
 -- it is the value that is answered
-pub appends_value : (old new : FunctionBuilder) (shape : InstructionData) (ty : «Type») (inst v : ℕ)
+pub appends_value : {R : Type 0} (old new : FunctionBuilder R) (shape : InstructionData) (ty : «Type») (inst v : ℕ)
     → IfSome old.position (λ block. Appends old new block shape ty inst) → v ≡ length old.func.now.values → IfSome old.position (λ block. AppendsValue old new block shape ty v)
 appends_value old new shape ty inst v appends is = by_position old.position appends
   where
@@ -217,7 +217,7 @@ appends_value old new shape ty inst v appends is = by_position old.position appe
     by_position (Some block) holds = (subst (λ (i : ℕ). Appends old new block shape ty i) holds.number holds, is)
 
 -- the same of two
-pub appends_pair : (old new : FunctionBuilder) (shape : InstructionData) (ty : «Type») (inst : ℕ) (pair : ℕ × ℕ)
+pub appends_pair : {R : Type 0} (old new : FunctionBuilder R) (shape : InstructionData) (ty : «Type») (inst : ℕ) (pair : ℕ × ℕ)
     → IfSome old.position (λ block. Appends old new block shape ty inst) → pair.0 ≡ length old.func.now.values → pair.1 ≡ length old.func.now.values + 1
     → IfSome old.position (λ block. AppendsPair old new block shape ty pair)
 appends_pair old new shape ty inst pair appends first second = by_position old.position appends

@@ -41,7 +41,7 @@ answers-stay calls added k given at =
 
 -- NAMES -------------------------------------------------------------------------------------------------------------------
 
-module _ (reads : LedgerIsReadByNumber) {declared : SignatureShape} (calls added : List AnsweredCall) (old new : FunctionBuilder)
+module _ {R : Type 0} (reads : LedgerIsReadByNumber) {declared : SignatureShape} (calls added : List AnsweredCall) (old new : FunctionBuilder R)
     (stands : StandsFor declared calls old) (after : StandsFor declared (calls ++ added) new) where
   pub answer-stays : (name : Name) (a : Answered) → answer_at (ledger_of calls) name ≡ Some a → answer_at (ledger_of (calls ++ added)) name ≡ Some a
   answer-stays name a there =
@@ -55,14 +55,14 @@ module _ (reads : LedgerIsReadByNumber) {declared : SignatureShape} (calls added
 
   pub block-stays : (name : Name) (block : ℕ) → NamesBlock calls name block → NamesBlock (calls ++ added) name block
   block-stays name block names =
-      let read = reads calls old.func.now old.ctx.now old.position stands.ledger in
+      let read = reads calls old.func.now old.ctx.now.parts old.position stands.ledger in
       let answered = answer-stays name ABlock (stands.ledger.block_answers block name (read.named name block names)) in
       let number = number-stays name block names.number in
       let given = and-then-some (λ (answers : List Answered). slice_get answers name.index) (slice_get (ledger_of (calls ++ added)).answers name.place) ABlock answered in
       let at = and-then-some (λ (one : AnsweredCall). slice_get one.numbers name.index) (slice_get (calls ++ added) name.place) block number in
       let named : block_name (ledger_of (calls ++ added)) block ≡ Some name =
       (after.ledger.answers name.place at.0 given.0 at.1 given.1).each name.index ABlock block given.2 at.2 in
-      record { number = number; is_block = ap is_some ((reads (calls ++ added) new.func.now new.ctx.now new.position after.ledger).state block name named).found }
+      record { number = number; is_block = ap is_some ((reads (calls ++ added) new.func.now new.ctx.now.parts new.position after.ledger).state block name named).found }
 
   pub value-stays : (name : Name) (value : ℕ) → NamesValue calls name value → NamesValue (calls ++ added) name value
   value-stays name value names = record { number = number-stays name value names.number; is_value = by (answer_at (ledger_of calls) name) refl names.is_value }

@@ -89,9 +89,9 @@ refusal-from calls f c (state ∷ states) from agrees =
     (one-block calls state from (status_of c from) (is_yes (sealed_of c.ssa from)) (find is_unfinished states) (first_fault c (from + 1) (length states))
     here.number here.is_sealed here.is_pristine here.is_filled rest)
 
-pub finished : (calls : List AnsweredCall) (b : FunctionBuilder) → AgreesWithLedger calls b → b.failed ≡ false
-    → RefusalAgrees calls (refusal_of (ledger_of calls) Finalize) (verdict_of b.failed b.ctx.now (length b.func.now.blocks))
+pub finished : {R : Type 0} (calls : List AnsweredCall) (b : FunctionBuilder R) → AgreesWithLedger calls b → b.failed ≡ false
+    → RefusalAgrees calls (refusal_of (ledger_of calls) Finalize) (verdict_of b.failed b.ctx.now.parts (length b.func.now.blocks))
 finished calls b agrees sound =
-    let from_zero = refusal-from calls b.func.now b.ctx.now (ledger_of calls).blocks 0 (λ k s there. let same : k ≡ 0 + k = omega arith in subst (λ (n : ℕ). BlockAgrees calls b.func.now b.ctx.now n s) same (agrees.blocks k s there)) in
-    subst (λ (failed : Bool). RefusalAgrees calls (refusal_of (ledger_of calls) Finalize) (verdict_of failed b.ctx.now (length b.func.now.blocks))) (sym sound)
-    (subst (λ (n : ℕ). RefusalAgrees calls (refusal_of (ledger_of calls) Finalize) (answer_of (first_fault b.ctx.now 0 n))) agrees.block_count from_zero)
+    let from_zero = refusal-from calls b.func.now b.ctx.now.parts (ledger_of calls).blocks 0 (λ k s there. let same : k ≡ 0 + k = omega arith in subst (λ (n : ℕ). BlockAgrees calls b.func.now b.ctx.now.parts n s) same (agrees.blocks k s there)) in
+    subst (λ (failed : Bool). RefusalAgrees calls (refusal_of (ledger_of calls) Finalize) (verdict_of failed b.ctx.now.parts (length b.func.now.blocks))) (sym sound)
+    (subst (λ (n : ℕ). RefusalAgrees calls (refusal_of (ledger_of calls) Finalize) (answer_of (first_fault b.ctx.now.parts 0 n))) agrees.block_count from_zero)

@@ -167,10 +167,10 @@ ledger-shaped place calls f g c d p block entries instruction shape ty (Ok inst)
 -- BUILDERS --------------------------------------------------------------------------------------------------------
 
 -- the current block
-pub current-is : (b : FunctionBuilder) → HasCurrent b → (block : ℕ) → b.position ≡ Some block → (block < length b.func.now.blocks) × (status_of b.ctx.now block ≢ Filled)
+pub current-is : {R : Type 0} (b : FunctionBuilder R) → HasCurrent b → (block : ℕ) → b.position ≡ Some block → (block < length b.func.now.blocks) × (status_of b.ctx.now.parts block ≢ Filled)
 current-is b current block at =
     let same : current.0 ≡ block = same_Some current.0 block (sym current.1 ∙ at) in
-    subst (λ (n : ℕ). (n < length b.func.now.blocks) × (status_of b.ctx.now n ≢ Filled)) same (current.2, current.3)
+    subst (λ (n : ℕ). (n < length b.func.now.blocks) × (status_of b.ctx.now.parts n ≢ Filled)) same (current.2, current.3)
 
 -- THE CALLS -------------------------------------------------------------------------------------------------------
 

@@ -51,4 +51,5 @@ mod Made
 pub mod Exactly
 pub mod Ending
 mod Fitting
+pub mod Regions
 mod Spilled

@@ -135,5 +135,5 @@ names_recorded {X} {Y} r f s t variable block value records kept same exists nam
 pub ruleset names_rules = (names_inserted, names_made, names_recorded)
 
 -- two builders that differ in no part that runs are one
-pub same_builder : (b : FunctionBuilder) (named : ∥ IsKept b.func.now b.ctx.now b.failed ∥₁) → (record b { named = named }) ≡ b
-same_builder b named = ap (λ (n : ∥ IsKept b.func.now b.ctx.now b.failed ∥₁). record b { named = n }) (∥∥₁_prop named b.named)
+pub same_builder : {R : Type 0} (b : FunctionBuilder R) (named : ∥ IsKept b.func.now b.ctx.now.parts b.failed ∥₁) → (record b { named = named }) ≡ b
+same_builder b named = ap (λ (n : ∥ IsKept b.func.now b.ctx.now.parts b.failed ∥₁). record b { named = n }) (∥∥₁_prop named b.named)

@@ -87,13 +87,13 @@ module _ (calls : List AnsweredCall) (f : Body) (c : ContextState) (p : Option �
 -- THE BUILDER -----------------------------------------------------------------------------------------------------------
 
 -- a builder that failed tells nothing
-pub never_told : (old : FunctionBuilder) (names : List AnsweredCall → Type 0) (call : AnsweredCall) → IsTold {A = Unit {0}} old old (Err Failed) names (λ _. call)
+pub never_told : {R : Type 0} (old : FunctionBuilder R) (names : List AnsweredCall → Type 0) (call : AnsweredCall) → IsTold {A = Unit {0}} old old (Err Failed) names (λ _. call)
 never_told old names _ = record { ledger = λ calls agrees named. tt; stands = λ signature calls standing named. tt }
 
-pub needing : (old new : FunctionBuilder) (answer : Result (Unit {0}) BuildError) (need : StackMapNeed) (tracked : Tracked) (names : List AnsweredCall → Type 0)
+pub needing : {R : Type 0} (old new : FunctionBuilder R) (answer : Result (Unit {0}) BuildError) (need : StackMapNeed) (tracked : Tracked) (names : List AnsweredCall → Type 0)
     → ((calls : List AnsweredCall) → AgreesWithLedger calls old → NeedMarks need (ledger_of calls) tracked)
-    → ((calls : List AnsweredCall) → names calls → TracksNeed calls old.ctx.now.ssa (with_tracking old.ctx.now tracked).ssa need)
-    → new.func.now ≡ old.func.now → new.position ≡ old.position → OnOk answer (new.ctx.now ≡ with_tracking old.ctx.now tracked)
+    → ((calls : List AnsweredCall) → names calls → TracksNeed calls old.ctx.now.parts.ssa (with_tracking old.ctx.now.parts tracked).ssa need)
+    → new.func.now ≡ old.func.now → new.position ≡ old.position → OnOk answer (new.ctx.now.parts ≡ with_tracking old.ctx.now.parts tracked)
     → IsTold old new answer names (λ _. answered (NeedStackMap need) [])
 needing old new answer need tracked names marks tracks function position context =
     told old new answer names (answered (NeedStackMap need) [])
@@ -101,29 +101,29 @@ needing old new answer need tracked names marks tracks function position context
     (λ signature calls standing named ledger. on_ok_both answer (λ is now. stand signature calls standing (tracks calls named) is now) context ledger)
   where
     -- the parts of the builder behind the call
-    moved : (P : Body → ContextState → Option ℕ → Type 0) → new.ctx.now ≡ with_tracking old.ctx.now tracked → P old.func.now (with_tracking old.ctx.now tracked) old.position
-        → P new.func.now new.ctx.now new.position
+    moved : (P : Body → ContextState → Option ℕ → Type 0) → new.ctx.now.parts ≡ with_tracking old.ctx.now.parts tracked → P old.func.now (with_tracking old.ctx.now.parts tracked) old.position
+        → P new.func.now new.ctx.now.parts new.position
     moved P is holds =
-        subst (λ (f : Body). P f new.ctx.now new.position) (sym function)
-        (subst (λ (c : ContextState). P old.func.now c new.position) (sym is) (subst (P old.func.now (with_tracking old.ctx.now tracked)) (sym position) holds))
+        subst (λ (f : Body). P f new.ctx.now.parts new.position) (sym function)
+        (subst (λ (c : ContextState). P old.func.now c new.position) (sym is) (subst (P old.func.now (with_tracking old.ctx.now.parts tracked)) (sym position) holds))
 
-    back : (P : Body → ContextState → Option ℕ → Type 0) → new.ctx.now ≡ with_tracking old.ctx.now tracked → P new.func.now new.ctx.now new.position
-        → P old.func.now (with_tracking old.ctx.now tracked) old.position
+    back : (P : Body → ContextState → Option ℕ → Type 0) → new.ctx.now.parts ≡ with_tracking old.ctx.now.parts tracked → P new.func.now new.ctx.now.parts new.position
+        → P old.func.now (with_tracking old.ctx.now.parts tracked) old.position
     back P is holds =
-        subst (λ (f : Body). P f (with_tracking old.ctx.now tracked) old.position) function
-        (subst (λ (c : ContextState). P new.func.now c old.position) is (subst (P new.func.now new.ctx.now) position holds))
+        subst (λ (f : Body). P f (with_tracking old.ctx.now.parts tracked) old.position) function
+        (subst (λ (c : ContextState). P new.func.now c old.position) is (subst (P new.func.now new.ctx.now.parts) position holds))
 
-    agree : (calls : List AnsweredCall) → AgreesWithLedger calls old → TracksNeed calls old.ctx.now.ssa (with_tracking old.ctx.now tracked).ssa need → new.ctx.now ≡ with_tracking old.ctx.now tracked
+    agree : (calls : List AnsweredCall) → AgreesWithLedger calls old → TracksNeed calls old.ctx.now.parts.ssa (with_tracking old.ctx.now.parts tracked).ssa need → new.ctx.now.parts ≡ with_tracking old.ctx.now.parts tracked
         → AgreesWithLedger (calls ++ answered (NeedStackMap need) [] ∷ []) new
     agree calls agrees needs is =
         moved (λ f c p. LedgerAgrees (calls ++ answered (NeedStackMap need) [] ∷ []) (ledger_of (calls ++ answered (NeedStackMap need) [] ∷ [])) f c p) is
-        (need_agrees calls old.func.now old.ctx.now old.position need tracked (marks calls agrees) needs agrees)
+        (need_agrees calls old.func.now old.ctx.now.parts old.position need tracked (marks calls agrees) needs agrees)
 
-    stand : (signature : SignatureShape) (calls : List AnsweredCall) → StandsFor signature calls old → TracksNeed calls old.ctx.now.ssa (with_tracking old.ctx.now tracked).ssa need → new.ctx.now ≡ with_tracking old.ctx.now tracked
+    stand : (signature : SignatureShape) (calls : List AnsweredCall) → StandsFor signature calls old → TracksNeed calls old.ctx.now.parts.ssa (with_tracking old.ctx.now.parts tracked).ssa need → new.ctx.now.parts ≡ with_tracking old.ctx.now.parts tracked
         → AgreesWithLedger (calls ++ answered (NeedStackMap need) [] ∷ []) new → StandsFor signature (calls ++ answered (NeedStackMap need) [] ∷ []) new
     stand signature calls standing needs is now =
         moved (λ f c p. StandsIn signature (calls ++ answered (NeedStackMap need) [] ∷ []) f c p) is
-        (need_stands calls old.func.now old.ctx.now old.position need tracked signature needs standing
+        (need_stands calls old.func.now old.ctx.now.parts old.position need tracked signature needs standing
         (back (λ f c p. LedgerAgrees (calls ++ answered (NeedStackMap need) [] ∷ []) (ledger_of (calls ++ answered (NeedStackMap need) [] ∷ [])) f c p) is now))
 
     on_ok_both : {P Q R : Type 0} (answer : Result (Unit {0}) BuildError) → (P → Q → R) → OnOk answer P → OnOk answer Q → OnOk answer R
@@ -148,25 +148,25 @@ marked_here (state ∷ states) (suc variable) (suc x) inside =
           | inr differ ↦ ne_eqb (suc a) (suc b) (λ same. differ (omega (arith, same))) ∙ sym (ne_eqb a b differ)
         ]
 
-pub variable_marks : (old : FunctionBuilder) (variable : ℕ) → VariableFits old.ctx.now variable → (calls : List AnsweredCall) → AgreesWithLedger calls old
-    → NeedMarks (OfVariable variable) (ledger_of calls) (with_mark old.ctx.now.ssa.tracking variable)
+pub variable_marks : {R : Type 0} (old : FunctionBuilder R) (variable : ℕ) → VariableFits old.ctx.now.parts variable → (calls : List AnsweredCall) → AgreesWithLedger calls old
+    → NeedMarks (OfVariable variable) (ledger_of calls) (with_mark old.ctx.now.parts.ssa.tracking variable)
 variable_marks old variable fits calls agrees x =
-    let below : variable < length old.ctx.now.variables = slice_get_within old.ctx.now.variables variable fits.ty fits.declared in
-    let count : length (ledger_of calls).variables ≡ length old.ctx.now.variables = variable-count calls (ledger_of calls) old.func.now old.ctx.now old.position agrees in
+    let below : variable < length old.ctx.now.parts.variables = slice_get_within old.ctx.now.parts.variables variable fits.ty fits.declared in
+    let count : length (ledger_of calls).variables ≡ length old.ctx.now.parts.variables = variable-count calls (ledger_of calls) old.func.now old.ctx.now.parts old.position agrees in
     marked_here (ledger_of calls).variables variable x (omega (arith, below, count))
     ∙ ap (λ (t : Bool). (variable == x) || t) (agrees.tracks.marks x)
-    ∙ sym (has-with_member (marked_of old.ctx.now.ssa.tracking) variable x)
+    ∙ sym (has-with_member (marked_of old.ctx.now.parts.ssa.tracking) variable x)
 
 -- a variable that is on record nowhere is marked
-pub variable_needed : (old : FunctionBuilder) (variable : ℕ) → IsUnused old.ctx.now variable → (calls : List AnsweredCall)
-    → TracksNeed calls old.ctx.now.ssa (with_tracking old.ctx.now (with_mark old.ctx.now.ssa.tracking variable)).ssa (OfVariable variable)
+pub variable_needed : {R : Type 0} (old : FunctionBuilder R) (variable : ℕ) → IsUnused old.ctx.now.parts variable → (calls : List AnsweredCall)
+    → TracksNeed calls old.ctx.now.parts.ssa (with_tracking old.ctx.now.parts (with_mark old.ctx.now.parts.ssa.tracking variable)).ssa (OfVariable variable)
 variable_needed old variable unused calls = (unused, refl)
 
 -- the value that answers the name is recorded
-pub value_needed : (old : FunctionBuilder) (name : Name) (value : ℕ) (calls : List AnsweredCall) → NamesValue calls name value
-    → TracksNeed calls old.ctx.now.ssa (with_tracking old.ctx.now (with_recorded old.ctx.now.ssa.tracking value)).ssa (OfValue name)
-value_needed old name value calls names = (names.is_value, ap (with_recorded old.ctx.now.ssa.tracking) (sym (ap number_or_none names.number)))
+pub value_needed : {R : Type 0} (old : FunctionBuilder R) (name : Name) (value : ℕ) (calls : List AnsweredCall) → NamesValue calls name value
+    → TracksNeed calls old.ctx.now.parts.ssa (with_tracking old.ctx.now.parts (with_recorded old.ctx.now.parts.ssa.tracking value)).ssa (OfValue name)
+value_needed old name value calls names = (names.is_value, ap (with_recorded old.ctx.now.parts.ssa.tracking) (sym (ap number_or_none names.number)))
 
-pub value_marks : (old : FunctionBuilder) (name : Name) (value : ℕ) (calls : List AnsweredCall) → AgreesWithLedger calls old
-    → NeedMarks (OfValue name) (ledger_of calls) (with_recorded old.ctx.now.ssa.tracking value)
+pub value_marks : {R : Type 0} (old : FunctionBuilder R) (name : Name) (value : ℕ) (calls : List AnsweredCall) → AgreesWithLedger calls old
+    → NeedMarks (OfValue name) (ledger_of calls) (with_recorded old.ctx.now.parts.ssa.tracking value)
 value_marks old name value calls agrees x = agrees.tracks.marks x

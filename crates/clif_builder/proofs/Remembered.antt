@@ -115,7 +115,7 @@ remembers_appended place (Ok inst) y e f g c d b shape ty known appends declares
 same_some : {x y : ℕ} → ◌≡◌ {A = Option ℕ} (Some x) (Some y) → x ≡ y
 same_some same = cc
 
-pub uses_agree : (x e first second : ℕ) (b : FunctionBuilder) (builders : List FunctionBuilder) → HasRecordIn b x e first → AreCalls x e b builders
+pub uses_agree : {R : Type 0} (x e first second : ℕ) (b : FunctionBuilder R) (builders : List (FunctionBuilder R)) → HasRecordIn b x e first → AreCalls x e b builders
     → HasRecordIn (last_builder b builders) x e second → resolved (last_builder b builders).func.now first ≡ resolved (last_builder b builders).func.now second
 uses_agree x e first second b [] (v, is, ends) calls (w, is_too, ends_too) = sym ends ∙ ap (resolved b.func.now) (same_some (sym is ∙ is_too)) ∙ ends_too
 uses_agree x e first second b (next ∷ builders) has calls last =

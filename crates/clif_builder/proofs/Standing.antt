@@ -234,12 +234,12 @@ stands_begins f c p function context ledger = record {
 }
 
 -- the current block exists
-pub current_exists : (b : FunctionBuilder) → HasCurrent b → (block : ℕ) → b.position ≡ Some block → block < length b.func.now.blocks
+pub current_exists : {R : Type 0} (b : FunctionBuilder R) → HasCurrent b → (block : ℕ) → b.position ≡ Some block → block < length b.func.now.blocks
 current_exists b current block at = subst (λ (k : ℕ). k < length b.func.now.blocks) (same_Some current.0 block (sym current.1 ∙ at)) current.2
 
 -- and has no terminator
-pub current_open : (b : FunctionBuilder) → HasCurrent b → (block : ℕ) → b.position ≡ Some block → status_of b.ctx.now block ≢ Filled
-current_open b current block at = subst (λ (k : ℕ). status_of b.ctx.now k ≢ Filled) (same_Some current.0 block (sym current.1 ∙ at)) current.3
+pub current_open : {R : Type 0} (b : FunctionBuilder R) → HasCurrent b → (block : ℕ) → b.position ≡ Some block → status_of b.ctx.now.parts block ≢ Filled
+current_open b current block at = subst (λ (k : ℕ). status_of b.ctx.now.parts k ≢ Filled) (same_Some current.0 block (sym current.1 ∙ at)) current.3
 
 -- once no parameter waits, the edges match where the caller's do
 pub standing_edges : StandingMatchesEdges

@@ -135,7 +135,7 @@ module _ (lists : TableLists) (f g : Body) where
   on_ok P (Err e) is holds = tt
   on_ok P (Ok n) is holds = subst P (sym is) holds
 
-pub current_aside : {A : Type 0} (lists : TableLists) (old new : FunctionBuilder) (r : Result A BuildError) → new.position ≡ old.position → new.ctx.now ≡ old.ctx.now
+pub current_aside : {A : Type 0} {R : Type 0} (lists : TableLists) (old new : FunctionBuilder R) (r : Result A BuildError) → new.position ≡ old.position → new.ctx.now.parts ≡ old.ctx.now.parts
     → OnOk r (new.func.now ≡ with_tables old.func.now lists) → HasCurrent old → OnOk r (HasCurrent new)
 current_aside lists old new (Err e) position context is current = tt
 current_aside lists old new (Ok n) position context is current = (
@@ -146,38 +146,38 @@ current_aside lists old new (Ok n) position context is current = (
 )
 
 -- a call on a builder that hasn't failed
-pub set_tables : {A : Type 0} (lists : TableLists) (old new : FunctionBuilder) (answer : Result A BuildError) → AreAside old.func.now lists → old.failed ≡ false → SameLoans old new
-    → new.position ≡ old.position → new.srcloc ≡ old.srcloc → new.ctx.now ≡ old.ctx.now → new.failed ≡ is_err answer → IsConsistent old.func.now → answer ≢ Err Failed
+pub set_tables : {A : Type 0} {R : Type 0} (lists : TableLists) (old new : FunctionBuilder R) (answer : Result A BuildError) → AreAside old.func.now lists → old.failed ≡ false → SameLoans old new
+    → new.position ≡ old.position → new.srcloc ≡ old.srcloc → new.ctx.now.parts ≡ old.ctx.now.parts → new.failed ≡ is_err answer → IsConsistent old.func.now → answer ≢ Err Failed
     → OnOk answer (new.func.now ≡ with_tables old.func.now lists) → OnErr answer (new.func.now ≡ old.func.now) → SetsTables lists old new answer
 set_tables {A} lists old new answer aside fine loans position srcloc context fails consistent never_failed ok err =
     let f : Body = old.func.now in
     let g : Body = new.func.now in
-    let ssa : new.ctx.now.ssa ≡ old.ctx.now.ssa = ap (λ (c : ContextState). c.ssa) context in
-    let parts : (P : Body → ContextState → Option ℕ → Type 0) → P (with_tables f lists) old.ctx.now old.position → P (with_tables f lists) new.ctx.now new.position =
-    λ P holds. subst (λ (r : Option ℕ). P (with_tables f lists) new.ctx.now r) (sym position) (subst (λ (e : ContextState). P (with_tables f lists) e old.position) (sym context) holds) in
+    let ssa : new.ctx.now.parts.ssa ≡ old.ctx.now.parts.ssa = ap (λ (c : ContextState). c.ssa) context in
+    let parts : (P : Body → ContextState → Option ℕ → Type 0) → P (with_tables f lists) old.ctx.now.parts old.position → P (with_tables f lists) new.ctx.now.parts new.position =
+    λ P holds. subst (λ (r : Option ℕ). P (with_tables f lists) new.ctx.now.parts r) (sym position) (subst (λ (e : ContextState). P (with_tables f lists) e old.position) (sym context) holds) in
     record {
-      call = calls.made old new answer loans position srcloc fine never_failed fails (same_looks old.ctx.now.ssa new.ctx.now.ssa ssa)
-          (on_ok lists f g (TypesStay f) answer ok (λ v inside. refl)) (filled-same answer old.ctx.now new.ctx.now (ap (λ (c : ContextState). c.status) context));
+      call = calls.made old new answer loans position srcloc fine never_failed fails (same_looks old.ctx.now.parts.ssa new.ctx.now.parts.ssa ssa)
+          (on_ok lists f g (TypesStay f) answer ok (λ v inside. refl)) (filled-same answer old.ctx.now.parts new.ctx.now.parts (ap (λ (c : ContextState). c.status) context));
       function = ok;
       kept = err;
       context = context;
       ledger = λ cs agrees.
-          on_ok lists f g (λ h. LedgerAgrees cs (ledger_of cs) h new.ctx.now new.position) answer ok
+          on_ok lists f g (λ h. LedgerAgrees cs (ledger_of cs) h new.ctx.now.parts new.position) answer ok
           (parts (λ h e r. LedgerAgrees cs (ledger_of cs) h e r)
-          (agrees_aside f lists aside.constants aside.entries aside.of_calls cs (ledger_of cs) old.ctx.now old.position agrees));
+          (agrees_aside f lists aside.constants aside.entries aside.of_calls cs (ledger_of cs) old.ctx.now.parts old.position agrees));
       stands = λ signature cs stands.
-          on_ok lists f g (λ h. StandsIn signature cs h new.ctx.now new.position) answer ok
+          on_ok lists f g (λ h. StandsIn signature cs h new.ctx.now.parts new.position) answer ok
           (parts (λ h e r. StandsIn signature cs h e r)
-          (stands_aside f lists aside.constants aside.entries aside.of_calls signature cs old.ctx.now old.position consistent stands));
+          (stands_aside f lists aside.constants aside.entries aside.of_calls signature cs old.ctx.now.parts old.position consistent stands));
       grows = on_ok lists f g (GrowsBesideTables f) answer ok (omega arith, omega arith, omega arith, refl, refl, omega (arith, aside.slots), aside.stay);
       remembers = λ x b.
-          on_ok lists f g (λ h. Remembers x b f old.ctx.now.ssa h new.ctx.now.ssa) answer ok
+          on_ok lists f g (λ h. Remembers x b f old.ctx.now.parts.ssa h new.ctx.now.parts.ssa) answer ok
           (record { recorded = λ v here. ap (λ (u : SsaState). record_of u x b) ssa ∙ here; alike = λ u v alike. alike });
       current = current_aside lists old new answer position context ok;
     }
 
 -- a call on one that has
-pub set_refused : {A : Type 0} (lists : TableLists) (old : FunctionBuilder) → old.failed ≡ true → SetsTables {A = A} lists old old (Err Failed)
+pub set_refused : {A : Type 0} {R : Type 0} (lists : TableLists) (old : FunctionBuilder R) → old.failed ≡ true → SetsTables {A = A} lists old old (Err Failed)
 set_refused {A} lists old failed = record {
   call = refused old failed;
   function = tt;
@@ -200,8 +200,8 @@ module _ (bytes : List ℕ) (f g : Body) where
       let h : Body = with_tables f (with_constant f.tables bytes) in
       ap (λ (h : Body). slice_get h.tables.constants n) is ∙ ap (slice_get h.tables.constants) number ∙ (is_pooled f.tables.constants bytes).found
 
-pub constant_pooled : (bytes : List ℕ) (old new : FunctionBuilder) (answer : Result ℕ BuildError) → old.failed ≡ false → SameLoans old new → new.position ≡ old.position → new.srcloc ≡ old.srcloc
-    → new.ctx.now ≡ old.ctx.now → new.failed ≡ is_err answer → IsConsistent old.func.now
+pub constant_pooled : {R : Type 0} (bytes : List ℕ) (old new : FunctionBuilder R) (answer : Result ℕ BuildError) → old.failed ≡ false → SameLoans old new → new.position ≡ old.position → new.srcloc ≡ old.srcloc
+    → new.ctx.now.parts ≡ old.ctx.now.parts → new.failed ≡ is_err answer → IsConsistent old.func.now
     → Pools bytes old.func.now.tables.constants old.func.now new.func.now (with_tables old.func.now (with_constant old.func.now.tables bytes)) answer → PoolsConstant old new bytes answer
 constant_pooled bytes old new answer fine loans position srcloc context fails consistent pools =
     let f : Body = old.func.now in
@@ -213,7 +213,7 @@ constant_pooled bytes old new answer fine loans position srcloc context fails co
       full = (λ is. let new = pools.full.0 is in (fine, new.0, new.1), λ all. pools.full.1 (all.1, all.2));
     }
 
-pub constant_refused : (bytes : List ℕ) (old : FunctionBuilder) → old.failed ≡ true → PoolsConstant old old bytes (Err Failed)
+pub constant_refused : {R : Type 0} (bytes : List ℕ) (old : FunctionBuilder R) → old.failed ≡ true → PoolsConstant old old bytes (Err Failed)
 constant_refused bytes old failed = record {
   sets = set_refused (with_constant old.func.now.tables bytes) old failed;
   grows = tt;
@@ -226,10 +226,10 @@ constant_refused bytes old failed = record {
 
 module _ {T : Type 0} (kind : TableKind T) where
   -- a table is put at the end of those of its kind
-  pub table_created : (held : T) (old new : FunctionBuilder) (answer : Result ℕ BuildError)
+  pub table_created : {R : Type 0} (held : T) (old new : FunctionBuilder R) (answer : Result ℕ BuildError)
       → AreAside old.func.now (kind.with_table old.func.now.tables held) → kind.tables (kind.with_table old.func.now.tables held) ≡ kind.tables old.func.now.tables ++ Some held ∷ []
       → old.failed ≡ false → SameLoans old new → new.position ≡ old.position → new.srcloc ≡ old.srcloc
-      → new.ctx.now ≡ old.ctx.now → new.failed ≡ is_err answer → IsConsistent old.func.now
+      → new.ctx.now.parts ≡ old.ctx.now.parts → new.failed ≡ is_err answer → IsConsistent old.func.now
       → MakesEntry (λ number. number) (length (kind.tables old.func.now.tables)) old.func.now new.func.now (with_tables old.func.now (kind.with_table old.func.now.tables held)) answer
       → Creates kind held old new answer
   table_created held old new answer aside last fine loans position srcloc context fails consistent makes =
@@ -249,7 +249,7 @@ module _ {T : Type 0} (kind : TableKind T) where
           ∙ ap unserved (get-last (kind.tables old.func.now.tables) (Some held))
       created (Err e) is number = tt
 
-  pub table_refused : (held : T) (old : FunctionBuilder) → old.failed ≡ true → Creates kind held old old (Err Failed)
+  pub table_refused : {R : Type 0} (held : T) (old : FunctionBuilder R) → old.failed ≡ true → Creates kind held old old (Err Failed)
   table_refused held old failed = record {
     sets = set_refused (kind.with_table old.func.now.tables held) old failed;
     number = tt;
@@ -262,18 +262,18 @@ module _ {T : Type 0} (kind : TableKind T) where
   NamedIn f c held = kind.CanBeNamed (CanLeadIn f c) (ValueExists f) (EntryExists f.tables) held
 
   -- what a table that may serve holds is taken
-  named_taken : (table : ℕ) (held : T) (old new : FunctionBuilder) → new.ctx.now ≡ old.ctx.now → table_held kind old table ≡ Some held
-      → (NamedIn old.func.now old.ctx.now held → NamedIn (with_tables old.func.now (kind.with_served old.func.now.tables table)) old.ctx.now held)
+  named_taken : {R : Type 0} (table : ℕ) (held : T) (old new : FunctionBuilder R) → new.ctx.now.parts ≡ old.ctx.now.parts → table_held kind old table ≡ Some held
+      → (NamedIn old.func.now old.ctx.now.parts held → NamedIn (with_tables old.func.now (kind.with_served old.func.now.tables table)) old.ctx.now.parts held)
       → new.func.now ≡ with_tables old.func.now (kind.with_served old.func.now.tables table) → MayServeFor kind old table → CanBeNamed kind new held
   named_taken table held old new context found stay made (other, is, named) =
       let same : other ≡ held = cc in
       subst (λ (c : ContextState). NamedIn new.func.now c held) (sym context)
-      (subst (λ (f : Body). NamedIn f old.ctx.now held) (sym made) (stay (subst (NamedIn old.func.now old.ctx.now) same named)))
+      (subst (λ (f : Body). NamedIn f old.ctx.now.parts held) (sym made) (stay (subst (NamedIn old.func.now old.ctx.now.parts) same named)))
 
-  pub table_taken : (table : ℕ) (held : T) (old new : FunctionBuilder) → AreAside old.func.now (kind.with_served old.func.now.tables table)
-      → (NamedIn old.func.now old.ctx.now held → NamedIn (with_tables old.func.now (kind.with_served old.func.now.tables table)) old.ctx.now held)
+  pub table_taken : {R : Type 0} (table : ℕ) (held : T) (old new : FunctionBuilder R) → AreAside old.func.now (kind.with_served old.func.now.tables table)
+      → (NamedIn old.func.now old.ctx.now.parts held → NamedIn (with_tables old.func.now (kind.with_served old.func.now.tables table)) old.ctx.now.parts held)
       → old.failed ≡ false → SameLoans old new → new.position ≡ old.position → new.srcloc ≡ old.srcloc
-      → new.ctx.now ≡ old.ctx.now → new.failed ≡ false → IsConsistent old.func.now → table_held kind old table ≡ Some held
+      → new.ctx.now.parts ≡ old.ctx.now.parts → new.failed ≡ false → IsConsistent old.func.now → table_held kind old table ≡ Some held
       → new.func.now ≡ with_tables old.func.now (kind.with_served old.func.now.tables table) → Takes kind old new table (Ok held)
   table_taken table held old new aside stay fine loans position srcloc context fails consistent found made =
       record {
@@ -283,7 +283,7 @@ module _ {T : Type 0} (kind : TableKind T) where
         only_failed = tt;
       }
 
-  pub take_refused : (table : ℕ) (old : FunctionBuilder) → old.failed ≡ true → Takes kind old old table (Err Failed)
+  pub take_refused : {R : Type 0} (table : ℕ) (old : FunctionBuilder R) → old.failed ≡ true → Takes kind old old table (Err Failed)
   take_refused table old failed =
       record { sets = set_refused (kind.with_served old.func.now.tables table) old failed; held = tt; can_be_named = λ serves. tt; only_failed = refl }
 
@@ -301,8 +301,8 @@ pub not_full : {A : Type 0} (r : Result A BuildError) → OnErr r (r ≡ Err Mem
 not_full (Ok x) only is = let no_way : ⊥ = cc in absurd no_way
 not_full (Err e) only is = let no_way : ⊥ = cc in absurd no_way
 
-pub edge_made : (block : ℕ) (args : List BlockArg) (old new : FunctionBuilder) (answer : Result BlockCall BuildError) → old.failed ≡ false → SameLoans old new → new.position ≡ old.position → new.srcloc ≡ old.srcloc
-    → new.ctx.now ≡ old.ctx.now → new.failed ≡ is_err answer → IsConsistent old.func.now → new.func.now ≡ old.func.now → OnErr answer (answer ≡ Err Memory)
+pub edge_made : {R : Type 0} (block : ℕ) (args : List BlockArg) (old new : FunctionBuilder R) (answer : Result BlockCall BuildError) → old.failed ≡ false → SameLoans old new → new.position ≡ old.position → new.srcloc ≡ old.srcloc
+    → new.ctx.now.parts ≡ old.ctx.now.parts → new.failed ≡ is_err answer → IsConsistent old.func.now → new.func.now ≡ old.func.now → OnErr answer (answer ≡ Err Memory)
     → IfOk answer (λ edge. (edge.block ≡ block) × (edge.args ≡ args)) → MakesEdge block args old new answer
 edge_made block args old new answer fine loans position srcloc context fails consistent same only_memory edge = record {
   sets = set_tables old.func.now.tables old new answer (same_aside old.func.now) fine loans position srcloc context fails consistent (calls.by_memory answer only_memory) (on_any answer same) (err_any answer same);
@@ -315,6 +315,6 @@ edge_made block args old new answer fine loans position srcloc context fails con
     parts (Ok e) is = subst (λ (b : ℕ). e ≡ record { block = b; args = args }) is.0 (subst (λ (as_are : List BlockArg). e ≡ record { block = e.block; args = as_are }) is.1 refl)
     parts (Err e) is = tt
 
-pub edge_refused : (block : ℕ) (args : List BlockArg) (old : FunctionBuilder) → old.failed ≡ true → MakesEdge block args old old (Err Failed)
+pub edge_refused : {R : Type 0} (block : ℕ) (args : List BlockArg) (old : FunctionBuilder R) → old.failed ≡ true → MakesEdge block args old old (Err Failed)
 edge_refused block args old failed =
     record { sets = set_refused old.func.now.tables old failed; grows = tt; edge = tt; never_full = λ is. let no_way : ⊥ = cc in absurd no_way }

@@ -60,8 +60,8 @@ never_full : (answer : Result (Unit {0}) BuildError) → OnErr answer (answer �
 never_full (Ok u) only is = let no_way : ⊥ = cc in absurd no_way
 never_full (Err e) only is = let no_way : ⊥ = cc in absurd no_way
 
-current_from : {E : Type 0} (answer : Result (Unit {0}) E) (old new : FunctionBuilder) (tracked : Tracked) → new.func.now ≡ old.func.now → new.position ≡ old.position
-    → OnOk answer (new.ctx.now ≡ with_tracking old.ctx.now tracked) → HasCurrent old → OnOk answer (HasCurrent new)
+current_from : {E : Type 0} {R : Type 0} (answer : Result (Unit {0}) E) (old new : FunctionBuilder R) (tracked : Tracked) → new.func.now ≡ old.func.now → new.position ≡ old.position
+    → OnOk answer (new.ctx.now.parts ≡ with_tracking old.ctx.now.parts tracked) → HasCurrent old → OnOk answer (HasCurrent new)
 current_from (Err e) old new tracked function position context current = tt
 current_from (Ok u) old new tracked function position context (block, at, exists, unfilled) = (
   block,
@@ -70,7 +70,7 @@ current_from (Ok u) old new tracked function position context (block, at, exists
   λ filled. unfilled (sym (ap (λ (c : ContextState). status_of c block) context) ∙ filled),
 )
 
-pub tracks_refused : (old : FunctionBuilder) (tracked : Tracked) → old.failed ≡ true → TracksFrom old old (Err Failed) tracked
+pub tracks_refused : {R : Type 0} (old : FunctionBuilder R) (tracked : Tracked) → old.failed ≡ true → TracksFrom old old (Err Failed) tracked
 tracks_refused old tracked failed = record {
   call = refused old failed;
   function = refl;
@@ -82,18 +82,18 @@ tracks_refused old tracked failed = record {
   current = λ current. tt;
 }
 
-pub tracks_made : (old new : FunctionBuilder) (answer : Result (Unit {0}) BuildError) (tracked : Tracked) → old.failed ≡ false → SameLoans old new → new.func.now ≡ old.func.now
+pub tracks_made : {R : Type 0} (old new : FunctionBuilder R) (answer : Result (Unit {0}) BuildError) (tracked : Tracked) → old.failed ≡ false → SameLoans old new → new.func.now ≡ old.func.now
     → new.position ≡ old.position → new.srcloc ≡ old.srcloc → new.failed ≡ is_err answer
-    → OnOk answer (new.ctx.now ≡ with_tracking old.ctx.now tracked) → OnErr answer (new.ctx.now ≡ old.ctx.now) → OnErr answer (answer ≡ Err Memory)
+    → OnOk answer (new.ctx.now.parts ≡ with_tracking old.ctx.now.parts tracked) → OnErr answer (new.ctx.now.parts ≡ old.ctx.now.parts) → OnErr answer (answer ≡ Err Memory)
     → TracksFrom old new answer tracked
 tracks_made old new answer tracked fine loans function position srcloc fails context kept only = record {
   call =
       made old new answer loans position srcloc fine (by_memory answer only) fails
-      (by_context (λ (c : ContextState). LooksOnce old.ctx.now.ssa → LooksOnce c.ssa) answer old.ctx.now new.ctx.now tracked context kept
-      (λ looks. looks) (looks_tracked old.ctx.now.ssa tracked))
+      (by_context (λ (c : ContextState). LooksOnce old.ctx.now.parts.ssa → LooksOnce c.ssa) answer old.ctx.now.parts new.ctx.now.parts tracked context kept
+      (λ looks. looks) (looks_tracked old.ctx.now.parts.ssa tracked))
       (subst (λ (g : Body). OnOk answer (TypesStay old.func.now g)) (sym function) (same-types answer old.func.now))
-      (filled-same answer old.ctx.now new.ctx.now
-      (by_context (λ (c : ContextState). c.status ≡ old.ctx.now.status) answer old.ctx.now new.ctx.now tracked context kept refl refl));
+      (filled-same answer old.ctx.now.parts new.ctx.now.parts
+      (by_context (λ (c : ContextState). c.status ≡ old.ctx.now.parts.status) answer old.ctx.now.parts new.ctx.now.parts tracked context kept refl refl));
   function = function;
   context = context;
   kept = kept;
@@ -101,9 +101,9 @@ tracks_made old new answer tracked fine loans function position srcloc fails con
   grows = on_ok_all answer (Grows-same old.func.now new.func.now function);
   remembers = λ x b.
       on_ok_all answer
-      (by_context (λ (c : ContextState). Remembers x b old.func.now old.ctx.now.ssa new.func.now c.ssa) answer old.ctx.now new.ctx.now tracked context kept
-      (subst (λ (g : Body). Remembers x b old.func.now old.ctx.now.ssa g old.ctx.now.ssa) (sym function) (remembers_tracked x b old.func.now old.ctx.now.ssa old.ctx.now.ssa.tracking))
-      (subst (λ (g : Body). Remembers x b old.func.now old.ctx.now.ssa g (tracking_in old.ctx.now.ssa tracked)) (sym function) (remembers_tracked x b old.func.now old.ctx.now.ssa tracked)));
+      (by_context (λ (c : ContextState). Remembers x b old.func.now old.ctx.now.parts.ssa new.func.now c.ssa) answer old.ctx.now.parts new.ctx.now.parts tracked context kept
+      (subst (λ (g : Body). Remembers x b old.func.now old.ctx.now.parts.ssa g old.ctx.now.parts.ssa) (sym function) (remembers_tracked x b old.func.now old.ctx.now.parts.ssa old.ctx.now.parts.ssa.tracking))
+      (subst (λ (g : Body). Remembers x b old.func.now old.ctx.now.parts.ssa g (tracking_in old.ctx.now.parts.ssa tracked)) (sym function) (remembers_tracked x b old.func.now old.ctx.now.parts.ssa tracked)));
   current = current_from answer old new tracked function position context;
 }
 

@@ -15,12 +15,12 @@ use Rattle.clif_builder.specs.Context.{SetsStatus, begun, status_of}
 
 -- A use is refused where the variable isn't declared: the current block is in the layout then, and begun, and nothing else
 -- has changed.
-pub record RefusesUse (old new : FunctionBuilder) (variable : ℕ) (error : UseVariableError) : Type 0 where
+pub record RefusesUse {R : Type 0} (old new : FunctionBuilder R) (variable : ℕ) (error : UseVariableError) : Type 0 where
   pub told : error ≡ UsedBeforeDeclared variable
-  pub undeclared : slice_get old.ctx.now.variables variable ≡ None
+  pub undeclared : slice_get old.ctx.now.parts.variables variable ≡ None
   pub function : IfSome old.position (λ block. new.func.now ≡ inserted_in old.func.now block)
-  pub status : IfSome old.position (λ block. SetsStatus old.ctx.now new.ctx.now block (begun (status_of old.ctx.now block)))
-  pub ssa : new.ctx.now.ssa ≡ old.ctx.now.ssa
+  pub status : IfSome old.position (λ block. SetsStatus old.ctx.now.parts new.ctx.now.parts block (begun (status_of old.ctx.now.parts block)))
+  pub ssa : new.ctx.now.parts.ssa ≡ old.ctx.now.parts.ssa
 
 -- which error tells that a value can't be assigned to a variable of this type, if it has one
 abbrev pub assignment_error : Option «Type» → ℕ → ℕ → DefVariableError
@@ -28,12 +28,12 @@ assignment_error None variable value = DefinedBeforeDeclared variable
 assignment_error (Some ty) variable value = TypeMismatch variable value
 
 -- A value can't be assigned to a variable: this isn't declared, or has another type.
-pub record IsMistyped (b : FunctionBuilder) (variable value : ℕ) (error : DefVariableError) : Type 0 where
-  pub told : error ≡ assignment_error (slice_get b.ctx.now.variables variable) variable value
-  pub mistyped : slice_get b.ctx.now.variables variable ≢ Some (value_at b.func.now value).ty
+pub record IsMistyped {R : Type 0} (b : FunctionBuilder R) (variable value : ℕ) (error : DefVariableError) : Type 0 where
+  pub told : error ≡ assignment_error (slice_get b.ctx.now.parts.variables variable) variable value
+  pub mistyped : slice_get b.ctx.now.parts.variables variable ≢ Some (value_at b.func.now value).ty
 
 -- An assignment is refused where that is so: nothing has changed.
-abbrev pub RefusesAssignment : FunctionBuilder → FunctionBuilder → ℕ → ℕ → DefVariableError → Type 0
+abbrev pub RefusesAssignment : {R : Type 0} → FunctionBuilder R → FunctionBuilder R → ℕ → ℕ → DefVariableError → Type 0
 RefusesAssignment old new variable value error = IsMistyped old variable value error × (new ≡ old)
 
 -- the call that a tried use is told as: a use, by its answer; where it is refused, the current block was inserted, as by the

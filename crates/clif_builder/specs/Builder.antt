@@ -19,17 +19,29 @@ use Rattle.clif_builder.specs.declared.context.BlockStatus.TheVariants.{Empty, P
 use Rattle.clif_builder.specs.declared.builder.FunctionBuilder.{FunctionBuilder}
 use Rattle.clif_builder.specs.Context.{ContextState, status_of, begun, SetsStatus}
 
--- both builders hold the same function and the same context
-pub record SameLoans (old new : FunctionBuilder) : Type 0 where
+-- both builders hold the same function and the same context, and this the same callback for alias regions
+pub record SameLoans {R : Type 0} (old new : FunctionBuilder R) : Type 0 where
   pub func : new.func.ghost_name ≡ old.func.ghost_name
   pub ctx : new.ctx.ghost_name ≡ old.ctx.ghost_name
+  pub region : new.ctx.now.region ≡ old.ctx.now.region
+
+-- Both builders hold the same function and the same context, and these and the builders are alike but for the callback that is asked
+-- for alias regions.
+pub record KeepsAllButRegion {R : Type 0} (old new : FunctionBuilder R) : Type 0 where
+  pub func_place : new.func.ghost_name ≡ old.func.ghost_name
+  pub ctx_place : new.ctx.ghost_name ≡ old.ctx.ghost_name
+  pub func : new.func.now ≡ old.func.now
+  pub parts : new.ctx.now.parts ≡ old.ctx.now.parts
+  pub position : new.position ≡ old.position
+  pub srcloc : new.srcloc ≡ old.srcloc
+  pub failed : new.failed ≡ old.failed
 
 -- with another current block
-abbrev pub with_position : FunctionBuilder → ℕ → FunctionBuilder
+abbrev pub with_position : {R : Type 0} → FunctionBuilder R → ℕ → FunctionBuilder R
 with_position b block = record b { position = Some block }
 
 -- with another source place for the instructions to come
-abbrev pub with_srcloc : FunctionBuilder → ℕ → FunctionBuilder
+abbrev pub with_srcloc : {R : Type 0} → FunctionBuilder R → ℕ → FunctionBuilder R
 with_srcloc b place = record b { srcloc = place }
 
 abbrev pub is_nothing : List ℕ → Bool
@@ -55,8 +67,8 @@ abbrev pub is_free_at : Option ℕ → Body → ContextState → Bool
 is_free_at None f c = true
 is_free_at (Some block) f c = may_be_left (status_of c block) || is_unreachable f c block
 
-abbrev pub is_free : FunctionBuilder → Bool
-is_free b = is_free_at b.position b.func.now b.ctx.now
+abbrev pub is_free : {R : Type 0} → FunctionBuilder R → Bool
+is_free b = is_free_at b.position b.func.now b.ctx.now.parts
 
 abbrev pub is_empty_status : BlockStatus → Bool
 is_empty_status Empty = true
@@ -69,16 +81,16 @@ is_filled_status Partial = false
 is_filled_status Filled = true
 
 -- there is a current block, and no terminator was appended to it
-abbrev pub HasCurrent : FunctionBuilder → Type 0
-HasCurrent b = (block : ℕ) × (b.position ≡ Some block) × (block < length b.func.now.blocks) × (status_of b.ctx.now block ≢ Filled)
+abbrev pub HasCurrent : {R : Type 0} → FunctionBuilder R → Type 0
+HasCurrent b = (block : ℕ) × (b.position ≡ Some block) × (block < length b.func.now.blocks) × (status_of b.ctx.now.parts block ≢ Filled)
 
 -- the current block, if there is one, has its terminator
-pub record IsLeft (b : FunctionBuilder) : Type 0 where
-  pub filled : IfSome b.position (λ block. status_of b.ctx.now block ≡ Filled)
+pub record IsLeft {R : Type 0} (b : FunctionBuilder R) : Type 0 where
+  pub filled : IfSome b.position (λ block. status_of b.ctx.now.parts block ≡ Filled)
 
 -- no block but the current one is filled that wasn't
-abbrev pub FillsCurrent : FunctionBuilder → FunctionBuilder → Type 0
-FillsCurrent old new = (b : ℕ) → old.position ≢ Some b → status_of new.ctx.now b ≡ Filled → status_of old.ctx.now b ≡ Filled
+abbrev pub FillsCurrent : {R : Type 0} → FunctionBuilder R → FunctionBuilder R → Type 0
+FillsCurrent old new = (b : ℕ) → old.position ≢ Some b → status_of new.ctx.now.parts b ≡ Filled → status_of old.ctx.now.parts b ≡ Filled
 
 -- A use of a variable of type `ty` in a block answers `value`: the recorded value, or else a new parameter of the block;
 -- where the block is sealed and nothing leads to it, a zero. (Where something does, `is_use` says what is kept.)
@@ -91,17 +103,17 @@ pub record UsesIn (f : Body) (c : ContextState) (g : Body) (d : ContextState) (v
       → Zeroes c.ssa d.ssa (inserted_in f block) g variable ty block × (value ≡ length f.values + 1 + steps_before ty)
 
 -- the same in a builder, for the type of the variable
-abbrev pub Uses : FunctionBuilder → FunctionBuilder → ℕ → ℕ → ℕ → Type 0
+abbrev pub Uses : {R : Type 0} → FunctionBuilder R → FunctionBuilder R → ℕ → ℕ → ℕ → Type 0
 Uses old new variable block value =
-    (ty : «Type») → slice_get old.ctx.now.variables variable ≡ Some ty
-    → UsesIn old.func.now old.ctx.now new.func.now new.ctx.now variable ty block value
+    (ty : «Type») → slice_get old.ctx.now.parts.variables variable ≡ Some ty
+    → UsesIn old.func.now old.ctx.now.parts new.func.now new.ctx.now.parts variable ty block value
 
 -- an edge may be made: its target exists and isn't sealed, and what it passes exists
 abbrev pub CanLeadIn : Body → ContextState → BlockCall → Type 0
 CanLeadIn f c edge = EdgeExists f edge × (is_yes (sealed_of c.ssa edge.block) ≡ false)
 
-abbrev pub CanLead : FunctionBuilder → BlockCall → Type 0
-CanLead b edge = CanLeadIn b.func.now b.ctx.now edge
+abbrev pub CanLead : {R : Type 0} → FunctionBuilder R → BlockCall → Type 0
+CanLead b edge = CanLeadIn b.func.now b.ctx.now.parts edge
 
 -- a function with an instruction at the end of a block, which is in the layout then
 abbrev pub with_appended : Body → ℕ → InstructionData → «Type» → ℕ → Body
@@ -117,17 +129,17 @@ pub record AppendsIn (place : ℕ) (f : Body) (c : ContextState) (g : Body) (d :
   pub number : inst ≡ length f.insts
   pub status : SetsStatus c d block (status_after shape (status_of c block))
 
-abbrev pub Appends : FunctionBuilder → FunctionBuilder → ℕ → InstructionData → «Type» → ℕ → Type 0
+abbrev pub Appends : {R : Type 0} → FunctionBuilder R → FunctionBuilder R → ℕ → InstructionData → «Type» → ℕ → Type 0
 Appends old new block shape ty inst =
-    AppendsIn old.srcloc old.func.now old.ctx.now new.func.now new.ctx.now block shape ty inst
+    AppendsIn old.srcloc old.func.now old.ctx.now.parts new.func.now new.ctx.now.parts block shape ty inst
 
 -- the same for an instruction with a result, which is the value `v`
-abbrev pub AppendsValue : FunctionBuilder → FunctionBuilder → ℕ → InstructionData → «Type» → ℕ → Type 0
+abbrev pub AppendsValue : {R : Type 0} → FunctionBuilder R → FunctionBuilder R → ℕ → InstructionData → «Type» → ℕ → Type 0
 AppendsValue old new block shape ty v =
     Appends old new block shape ty (length old.func.now.insts) × (v ≡ length old.func.now.values)
 
 -- and for one with two, which are these values
-abbrev pub AppendsPair : FunctionBuilder → FunctionBuilder → ℕ → InstructionData → «Type» → ℕ × ℕ → Type 0
+abbrev pub AppendsPair : {R : Type 0} → FunctionBuilder R → FunctionBuilder R → ℕ → InstructionData → «Type» → ℕ × ℕ → Type 0
 AppendsPair old new block shape ty pair =
     Appends old new block shape ty (length old.func.now.insts)
     × (pair.0 ≡ length old.func.now.values) × (pair.1 ≡ length old.func.now.values + 1)

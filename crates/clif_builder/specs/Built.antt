@@ -29,28 +29,28 @@ abbrev pub after_build : List AnsweredCall → List GivenEntry → Instruction N
 after_build calls entries instruction numbers = calls ++ record { request = Build entries instruction; numbers = numbers } ∷ []
 
 -- the numbers that answer an instruction: its own, and those of its results
-abbrev pub numbers_of : FunctionBuilder → ℕ → List ℕ
+abbrev pub numbers_of : {R : Type 0} → FunctionBuilder R → ℕ → List ℕ
 numbers_of b inst = inst ∷ (inst_at b.func.now inst).results
 
 -- the numbers that answer the next instruction, if this value is its only result
-abbrev pub numbers_with : FunctionBuilder → ℕ → List ℕ
+abbrev pub numbers_with : {R : Type 0} → FunctionBuilder R → ℕ → List ℕ
 numbers_with b value = length b.func.now.insts ∷ value ∷ []
 
 -- the numbers that answer the next instruction, if these values are its results
-abbrev pub numbers_with_pair : FunctionBuilder → ℕ × ℕ → List ℕ
+abbrev pub numbers_with_pair : {R : Type 0} → FunctionBuilder R → ℕ × ℕ → List ℕ
 numbers_with_pair b pair = length b.func.now.insts ∷ pair.0 ∷ pair.1 ∷ []
 
 -- the table of instructions or that of values is full
-abbrev pub HasFullTable : FunctionBuilder → Type 0
+abbrev pub HasFullTable : {R : Type 0} → FunctionBuilder R → Type 0
 HasFullTable b = (length b.func.now.insts ≡ 2 ^ 32 - 1) ⊎ (length b.func.now.values ≡ 2 ^ 32 - 1)
 
 -- An instruction of this shape was to be built at the end of the current block; the answer is its number, or an error.
-pub record Builds (old new : FunctionBuilder) (shape : InstructionData) (ty : «Type») (answer : Result ℕ BuildError) : Type 0 where
+pub record Builds {R : Type 0} (old new : FunctionBuilder R) (shape : InstructionData) (ty : «Type») (answer : Result ℕ BuildError) : Type 0 where
   pub loans : SameLoans old new
   pub appends : IfSome old.position (λ block. IfOk answer (Appends old new block shape ty))
-  pub declares : IfOk answer (λ inst. IsDeclared old.ctx.now.ssa inst (targets (destinations shape)) new.ctx.now.ssa)
-  pub ssa : is_branch shape ≡ false → new.ctx.now.ssa ≡ old.ctx.now.ssa
-  pub variables : new.ctx.now.variables ≡ old.ctx.now.variables
+  pub declares : IfOk answer (λ inst. IsDeclared old.ctx.now.parts.ssa inst (targets (destinations shape)) new.ctx.now.parts.ssa)
+  pub ssa : is_branch shape ≡ false → new.ctx.now.parts.ssa ≡ old.ctx.now.parts.ssa
+  pub variables : new.ctx.now.parts.variables ≡ old.ctx.now.parts.variables
   pub position : new.position ≡ old.position
   pub srcloc : new.srcloc ≡ old.srcloc
   pub full : answer ≡ Err Full → HasNoRoom old.func.now (count_of_results old.func.now.tables shape)
@@ -58,7 +58,7 @@ pub record Builds (old new : FunctionBuilder) (shape : InstructionData) (ty : «
   pub failed : (answer ≡ Err Failed) ↔ IsTrue old.failed
   pub unchanged : IsTrue old.failed → new ≡ old
   pub fails : new.failed ≡ is_err answer
-  pub looks_once : LooksOnce old.ctx.now.ssa → LooksOnce new.ctx.now.ssa
+  pub looks_once : LooksOnce old.ctx.now.parts.ssa → LooksOnce new.ctx.now.parts.ssa
   pub ledger : (calls : List AnsweredCall) (entries : List GivenEntry) (instruction : Instruction Name Name)
       → AgreesWithLedger calls old → HasShape calls old.func.now instruction shape ty
       → IfOk answer (λ inst. AgreesWithLedger (after_build calls entries instruction (numbers_of new inst)) new)
@@ -72,25 +72,25 @@ pub record Builds (old new : FunctionBuilder) (shape : InstructionData) (ty : «
   pub remembers : (v b : ℕ) → OnOk answer (RemembersIn v b old new)
   pub current : is_terminator shape ≡ false → OnOk answer (HasCurrent new)
   pub types : OnOk answer (TypesStay old.func.now new.func.now)
-  pub seals : OnOk answer (SealedStays old.ctx.now.ssa new.ctx.now.ssa)
+  pub seals : OnOk answer (SealedStays old.ctx.now.parts.ssa new.ctx.now.parts.ssa)
   pub fills : OnOk answer (FillsCurrent old new)
   -- after a terminator the block may be left
   pub left : is_terminator shape ≡ true → OnOk answer (IsLeft new)
   pub free : is_terminator shape ≡ true → OnOk answer (IsTrue (is_free new))
 
 -- The same of an instruction that has one result and ends no block; the answer is that result.
-pub record BuildsValue (old new : FunctionBuilder) (shape : InstructionData) (ty : «Type») (answer : Result ℕ BuildError) : Type 0 where
+pub record BuildsValue {R : Type 0} (old new : FunctionBuilder R) (shape : InstructionData) (ty : «Type») (answer : Result ℕ BuildError) : Type 0 where
   pub loans : SameLoans old new
   pub appends : IfSome old.position (λ block. IfOk answer (AppendsValue old new block shape ty))
-  pub ssa : new.ctx.now.ssa ≡ old.ctx.now.ssa
-  pub variables : new.ctx.now.variables ≡ old.ctx.now.variables
+  pub ssa : new.ctx.now.parts.ssa ≡ old.ctx.now.parts.ssa
+  pub variables : new.ctx.now.parts.variables ≡ old.ctx.now.parts.variables
   pub position : new.position ≡ old.position
   pub srcloc : new.srcloc ≡ old.srcloc
   pub full : answer ≡ Err Full → HasFullTable old
   pub failed : (answer ≡ Err Failed) ↔ IsTrue old.failed
   pub unchanged : IsTrue old.failed → new ≡ old
   pub fails : new.failed ≡ is_err answer
-  pub looks_once : LooksOnce old.ctx.now.ssa → LooksOnce new.ctx.now.ssa
+  pub looks_once : LooksOnce old.ctx.now.parts.ssa → LooksOnce new.ctx.now.parts.ssa
   pub ledger : (calls : List AnsweredCall) (entries : List GivenEntry) (instruction : Instruction Name Name)
       → AgreesWithLedger calls old → HasShape calls old.func.now instruction shape ty
       → IfOk answer (λ value. AgreesWithLedger (after_build calls entries instruction (numbers_with old value)) new)
@@ -103,21 +103,21 @@ pub record BuildsValue (old new : FunctionBuilder) (shape : InstructionData) (ty
   pub current : OnOk answer (HasCurrent new)
   pub types : OnOk answer (TypesStay old.func.now new.func.now)
   pub typed : IfOk answer (λ value. (value_at new.func.now value).ty ≡ result_type_of shape ty)
-  pub fills : OnOk answer (FillsNone old.ctx.now new.ctx.now)
+  pub fills : OnOk answer (FillsNone old.ctx.now.parts new.ctx.now.parts)
 
 -- The same of an instruction that has two results and ends no block; the answer is these.
-pub record BuildsPair (old new : FunctionBuilder) (shape : InstructionData) (ty : «Type») (answer : Result (ℕ × ℕ) BuildError) : Type 0 where
+pub record BuildsPair {R : Type 0} (old new : FunctionBuilder R) (shape : InstructionData) (ty : «Type») (answer : Result (ℕ × ℕ) BuildError) : Type 0 where
   pub loans : SameLoans old new
   pub appends : IfSome old.position (λ block. IfOk answer (AppendsPair old new block shape ty))
-  pub ssa : new.ctx.now.ssa ≡ old.ctx.now.ssa
-  pub variables : new.ctx.now.variables ≡ old.ctx.now.variables
+  pub ssa : new.ctx.now.parts.ssa ≡ old.ctx.now.parts.ssa
+  pub variables : new.ctx.now.parts.variables ≡ old.ctx.now.parts.variables
   pub position : new.position ≡ old.position
   pub srcloc : new.srcloc ≡ old.srcloc
   pub full : answer ≡ Err Full → HasNoRoom old.func.now 2
   pub failed : (answer ≡ Err Failed) ↔ IsTrue old.failed
   pub unchanged : IsTrue old.failed → new ≡ old
   pub fails : new.failed ≡ is_err answer
-  pub looks_once : LooksOnce old.ctx.now.ssa → LooksOnce new.ctx.now.ssa
+  pub looks_once : LooksOnce old.ctx.now.parts.ssa → LooksOnce new.ctx.now.parts.ssa
   pub ledger : (calls : List AnsweredCall) (entries : List GivenEntry) (instruction : Instruction Name Name)
       → AgreesWithLedger calls old → HasShape calls old.func.now instruction shape ty
       → IfOk answer (λ pair. AgreesWithLedger (after_build calls entries instruction (numbers_with_pair old pair)) new)
@@ -130,4 +130,4 @@ pub record BuildsPair (old new : FunctionBuilder) (shape : InstructionData) (ty 
   pub current : OnOk answer (HasCurrent new)
   pub types : OnOk answer (TypesStay old.func.now new.func.now)
   pub typed : IfOk answer (λ pair. map (λ value. (value_at new.func.now value).ty) (pair.0 ∷ pair.1 ∷ []) ≡ result_types shape ty)
-  pub fills : OnOk answer (FillsNone old.ctx.now new.ctx.now)
+  pub fills : OnOk answer (FillsNone old.ctx.now.parts new.ctx.now.parts)

@@ -25,23 +25,23 @@ answered request numbers = record { request = request; numbers = numbers }
 -- `Failed` and stays as it is, and a call that fails leaves one that failed. Whatever it answers, at most one look-up of a
 -- variable began in the predecessors of a block, if that was so before. A call that succeeds changes no value's type and
 -- appends no terminator.
-pub record IsCall {A : Type 0} (old new : FunctionBuilder) (answer : Result A BuildError) : Type 0 where
+pub record IsCall {A : Type 0} {R : Type 0} (old new : FunctionBuilder R) (answer : Result A BuildError) : Type 0 where
   pub loans : SameLoans old new
   pub position : new.position ≡ old.position
   pub srcloc : new.srcloc ≡ old.srcloc
   pub failed : (answer ≡ Err Failed) ↔ IsTrue old.failed
   pub unchanged : IsTrue old.failed → new ≡ old
   pub fails : new.failed ≡ is_err answer
-  pub looks_once : LooksOnce old.ctx.now.ssa → LooksOnce new.ctx.now.ssa
+  pub looks_once : LooksOnce old.ctx.now.parts.ssa → LooksOnce new.ctx.now.parts.ssa
   pub types : OnOk answer (TypesStay old.func.now new.func.now)
-  pub fills : OnOk answer (FillsNone old.ctx.now new.ctx.now)
+  pub fills : OnOk answer (FillsNone old.ctx.now.parts new.ctx.now.parts)
   -- a current block that has its terminator keeps it, so that it may be left
   pub left : IsLeft old → OnOk answer (IsLeft new)
   pub free : IsLeft old → OnOk answer (IsTrue (is_free new))
 
 -- Where the builder stood for a list of calls, and where names in it are as the call means them, the builder stands for
 -- the list with the call, by its answer. The ledger agrees even where the builder doesn't stand for the list.
-pub record IsTold {A E : Type 0} (old new : FunctionBuilder) (answer : Result A E)
+pub record IsTold {A E : Type 0} {R : Type 0} (old new : FunctionBuilder R) (answer : Result A E)
     (names : List AnsweredCall → Type 0) (call : A → AnsweredCall) : Type 0 where
   pub ledger : (calls : List AnsweredCall)
       → AgreesWithLedger calls old → names calls → IfOk answer (λ a. AgreesWithLedger (calls ++ call a ∷ []) new)
@@ -49,13 +49,13 @@ pub record IsTold {A E : Type 0} (old new : FunctionBuilder) (answer : Result A 
       → StandsFor signature calls old → names calls → IfOk answer (λ a. StandsFor signature (calls ++ call a ∷ []) new)
 
 -- the parameters of the function were put behind those of a block, and have the next numbers of values
-abbrev pub appended_params : FunctionBuilder → Name → AnsweredCall
+abbrev pub appended_params : {R : Type 0} → FunctionBuilder R → Name → AnsweredCall
 appended_params b name =
     let types : List «Type» = types_of b.func.now.signature.params in
     answered (AppendFunctionParams name types) (numbers_from (length b.func.now.values) types)
 
 -- the same of what the function returns
-abbrev pub appended_returns : FunctionBuilder → Name → AnsweredCall
+abbrev pub appended_returns : {R : Type 0} → FunctionBuilder R → Name → AnsweredCall
 appended_returns b name =
     let types : List «Type» = types_of b.func.now.signature.returns in
     answered (AppendBlockParams name types) (numbers_from (length b.func.now.values) types)

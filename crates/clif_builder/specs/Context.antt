@@ -1,4 +1,4 @@
--- What clauses see of a context, and what its calls make of it.
+-- What clauses see of a context, all but its callback, and what its calls make of it.
 -- Source: the crate's documentation of `FunctionBuilderContext`; the changes are own.
 use Rattle.std.specs.Prelude.{◌≡◌, ℕ, ◌==◌, ◌&&◌, Bool, List, [], is_some, not, slice_get, slice_index_or, if◌then◌else◌}
 use Rattle.clif_types.specs.declared.types.«Type».{«Type»}
@@ -43,10 +43,6 @@ TouchesVariable c d variable = (d.variables ≡ c.variables) × (d.touched ≡ w
 -- the variable is declared, and no call used or assigned it
 abbrev pub is_untouched : ContextState → ℕ → Bool
 is_untouched c variable = is_some (slice_get c.variables variable) && not (has c.touched variable)
-
--- the context is empty, as `new` and `finalize` leave it
-abbrev pub IsClear : ContextState → Type 0
-IsClear c = c ≡ empty_context
 
 -- the function is as its constructors leave it
 abbrev pub IsFresh : Body → Type 0

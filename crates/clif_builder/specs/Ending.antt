@@ -12,6 +12,7 @@ use Rattle.clif_meaning.specs.Typing.{EdgesMatch}
 use Rattle.clif_meaning.specs.View.{view_of}
 use Rattle.clif_meaning.specs.WellPlaced.{Records, RecordsWellPlaced, WellPlaced}
 use Rattle.clif_safepoints.specs.Contexts.{IsFirstTracked}
+use Rattle.clif_regions.specs.Asking.{Asks, CarriesAnswersOf}
 use Rattle.clif_spiller.specs.Keeping.{Keeps}
 use Rattle.clif_spiller.specs.Spills.{Spills}
 use Rattle.clif_records.specs.Tracking.{recorded_of}
@@ -25,8 +26,8 @@ use Rattle.clif_builder.specs.Ledger.{RefusalAgrees}
 use Rattle.clif_builder.specs.Recorded.{RecordsExactly}
 
 -- the values that stack maps need
-abbrev pub recorded_in : FunctionBuilder → List ℕ
-recorded_in b = recorded_of b.ctx.now.ssa.tracking
+abbrev pub recorded_in : {R : Type 0} → FunctionBuilder R → List ℕ
+recorded_in b = recorded_of b.ctx.now.parts.ssa.tracking
 
 -- The answer about contexts and spills: the first try call that is reached and has a recorded context, if there is one. Memory may be
 -- refused, and a table may be full, but not where no value is recorded.
@@ -43,8 +44,8 @@ EndsWith (Err lack) f recorded answer = answer ≡ Err lack
 EndsWith (Ok u) f recorded answer = TellsContext f recorded answer
 
 -- what a builder answers
-abbrev pub Ends : FunctionBuilder → Result (Unit {0}) FinalizeError → Type 0
-Ends b answer = EndsWith (verdict_of b.failed b.ctx.now (length b.func.now.blocks)) b.func.now (recorded_in b) answer
+abbrev pub Ends : {R : Type 0} → FunctionBuilder R → Result (Unit {0}) FinalizeError → Type 0
+Ends b answer = EndsWith (verdict_of b.failed b.ctx.now.parts (length b.func.now.blocks)) b.func.now (recorded_in b) answer
 
 -- What is answered by the ledger of the calls: what that refuses, or else what is told of contexts and spills.
 abbrev pub EndsByLedger : List AnsweredCall → Option Refusal → Body → (recorded : List ℕ) → Result (Unit {0}) FinalizeError → Type 0
@@ -73,6 +74,14 @@ abbrev pub BecomesSpilled : Body → (recorded : List ℕ) → (pointer : «Type
 BecomesSpilled f [] pointer g = g ≡ f
 BecomesSpilled f (value ∷ recorded) pointer g = Keeps (length f.blocks) f g × Spills f (value ∷ recorded) pointer g
 
+-- What becomes of a function at its end: values are spilled, and then a callback, if there is one, is asked for the alias region of each
+-- access that came to the function. Instructions that come to a function have numbers from the count of those before on, by the order in
+-- which they were inserted.
+pub record BecomesFinished {C : Type 0} (f : Body) (recorded : List ℕ) (pointer : «Type») (callback : Option C) (asks_of : C → Asks) (g : Body) : Type 0 where
+  pub between : Body
+  pub spilled : BecomesSpilled f recorded pointer between
+  pub regions : CarriesAnswersOf callback asks_of (length f.insts) between g
+
 -- an answer from before the spiller began
 abbrev pub IsBeforeSpilling : Result (Unit {0}) FinalizeError → Type 0
 IsBeforeSpilling (Ok u) = ⊥
@@ -81,13 +90,13 @@ IsBeforeSpilling (Err Full) = ⊥
 IsBeforeSpilling (Err other) = Unit {0}
 
 -- What is so of the function as `finalize` finds it, before values are spilled.
-pub record AsFound (signature : SignatureShape) (width : PointerWidth) (calls : List AnsweredCall) (b : FunctionBuilder) : Type 0 where
+pub record AsFound {R : Type 0} (signature : SignatureShape) (width : PointerWidth) (calls : List AnsweredCall) (b : FunctionBuilder R) : Type 0 where
   -- it means what the calls mean, with a collector over the recorded values
   pub moving : MeansTheSameMoving (script_of calls) signature width (view_of b.func.now) (has (recorded_in b))
   -- and these are exactly what the calls ask for
-  pub recorded : RecordsExactly calls b.func.now.values b.ctx.now.ssa
-  pub parameters : LeavesNoParameter calls b.func.now b.ctx.now.ssa
+  pub recorded : RecordsExactly calls b.func.now.values b.ctx.now.parts.ssa
+  pub parameters : LeavesNoParameter calls b.func.now b.ctx.now.parts.ssa
   pub edges_match : CallersEdgesMatch (script_of calls) → EdgesMatch (view_of b.func.now)
   pub well_placed : PlacementPremises (script_of calls) signature → WellPlaced (view_of b.func.now)
-  pub records_well_placed : (records : Records) → AreRecords calls b.func.now b.ctx.now.ssa records
+  pub records_well_placed : (records : Records) → AreRecords calls b.func.now b.ctx.now.parts.ssa records
       → PlacementPremises (script_of calls) signature → RecordsWellPlaced (view_of b.func.now) records

@@ -23,12 +23,12 @@ use Rattle.clif_builder.specs.Ledger.{AgreesWithLedger}
 use Rattle.clif_builder.specs.StandsFor.{StandsFor}
 
 -- the entry gets the next number of its table, and nothing but the table changes
-pub record MakesEntry (entry : TableEntry) (old new : FunctionBuilder) (answer : Result ℕ BuildError) : Type 0 where
+pub record MakesEntry {R : Type 0} (entry : TableEntry) (old new : FunctionBuilder R) (answer : Result ℕ BuildError) : Type 0 where
   pub call : IsCall old new answer
   pub function : OnOk answer (new.func.now ≡ with_tables old.func.now (with_entry old.func.now.tables entry))
   pub number : IfOk answer (λ number. number ≡ count_for old.func.now.tables entry)
   pub kept : OnErr answer (new.func.now ≡ old.func.now)
-  pub context : new.ctx.now ≡ old.ctx.now
+  pub context : new.ctx.now.parts ≡ old.ctx.now.parts
   -- a full table is answered exactly where its table holds 2^32 - 1 entries
   pub full : (answer ≡ Err Full) ↔ ((old.failed ≡ false) × (count_for old.func.now.tables entry ≡ 2 ^ 32 - 1))
   pub told : IsTold old new answer (λ _. Unit {0}) (λ number. answered (MakeEntry entry) (number ∷ []))
@@ -38,11 +38,11 @@ pub record MakesEntry (entry : TableEntry) (old new : FunctionBuilder) (answer :
 
 -- The function has these tables now, and nothing else changes. It is no call of a list: what instructions take of tables, they have
 -- themselves. So a builder stands for the same list.
-pub record SetsTables {A : Type 0} (tables : TableLists) (old new : FunctionBuilder) (answer : Result A BuildError) : Type 0 where
+pub record SetsTables {A : Type 0} {R : Type 0} (tables : TableLists) (old new : FunctionBuilder R) (answer : Result A BuildError) : Type 0 where
   pub call : IsCall old new answer
   pub function : OnOk answer (new.func.now ≡ with_tables old.func.now tables)
   pub kept : OnErr answer (new.func.now ≡ old.func.now)
-  pub context : new.ctx.now ≡ old.ctx.now
+  pub context : new.ctx.now.parts ≡ old.ctx.now.parts
   pub ledger : (calls : List AnsweredCall) → AgreesWithLedger calls old → OnOk answer (AgreesWithLedger calls new)
   pub stands : (signature : SignatureShape) (calls : List AnsweredCall) → StandsFor signature calls old → OnOk answer (StandsFor signature calls new)
   pub grows : OnOk answer (GrowsBesideTables old.func.now new.func.now)
@@ -50,7 +50,7 @@ pub record SetsTables {A : Type 0} (tables : TableLists) (old new : FunctionBuil
   pub current : HasCurrent old → OnOk answer (HasCurrent new)
 
 -- Bytes are pooled: the answer is the number of the constant with them, and nothing but the constants changes.
-pub record PoolsConstant (old new : FunctionBuilder) (bytes : List ℕ) (answer : Result ℕ BuildError) : Type 0 where
+pub record PoolsConstant {R : Type 0} (old new : FunctionBuilder R) (bytes : List ℕ) (answer : Result ℕ BuildError) : Type 0 where
   pub sets : SetsTables (with_constant old.func.now.tables bytes) old new answer
   pub grows : OnOk answer (Grows old.func.now new.func.now)
   pub number : IfOk answer (λ number. number ≡ constant_of old.func.now.tables.constants bytes)
@@ -60,30 +60,30 @@ pub record PoolsConstant (old new : FunctionBuilder) (bytes : List ℕ) (answer 
       ↔ ((old.failed ≡ false) × (has_constant old.func.now.tables.constants bytes ≡ false) × (length old.func.now.tables.constants ≡ 2 ^ 32 - 1))
 
 -- what the table of this kind and number holds, if there is one that serves no instruction so far
-abbrev pub table_held : {T : Type 0} → TableKind T → FunctionBuilder → ℕ → Option T
+abbrev pub table_held : {T : Type 0} → {R : Type 0} → TableKind T → FunctionBuilder R → ℕ → Option T
 table_held {T} kind b table = unserved_in kind b.func.now.tables table
 
 -- the edges of a jump table
-abbrev pub table_edges : FunctionBuilder → ℕ → Option (List BlockCall)
+abbrev pub table_edges : {R : Type 0} → FunctionBuilder R → ℕ → Option (List BlockCall)
 table_edges b table = table_held jump_tables b table
 
 -- an instruction may name what such a table holds
-abbrev pub CanBeNamed : {T : Type 0} → TableKind T → FunctionBuilder → T → Type 0
+abbrev pub CanBeNamed : {T : Type 0} → {R : Type 0} → TableKind T → FunctionBuilder R → T → Type 0
 CanBeNamed {T} kind b held = kind.CanBeNamed (CanLead b) (ValueExists b.func.now) (EntryExists b.func.now.tables) held
 
 -- there is such a table, and an instruction may name what it holds
-abbrev pub MayServeFor : {T : Type 0} → TableKind T → FunctionBuilder → ℕ → Type 0
+abbrev pub MayServeFor : {T : Type 0} → {R : Type 0} → TableKind T → FunctionBuilder R → ℕ → Type 0
 MayServeFor {T} kind b table =
     CanServe kind b.func.now.tables (CanLead b) (ValueExists b.func.now) (EntryExists b.func.now.tables) table
 
-abbrev pub MayServe : FunctionBuilder → ℕ → Type 0
+abbrev pub MayServe : {R : Type 0} → FunctionBuilder R → ℕ → Type 0
 MayServe b table = MayServeFor jump_tables b table
 
-abbrev pub MayServeTry : FunctionBuilder → ℕ → Type 0
+abbrev pub MayServeTry : {R : Type 0} → FunctionBuilder R → ℕ → Type 0
 MayServeTry b table = MayServeFor exception_tables b table
 
 -- A table of this kind that holds this gets the next number, and serves no instruction so far.
-pub record Creates {T : Type 0} (kind : TableKind T) (held : T) (old new : FunctionBuilder) (answer : Result ℕ BuildError) : Type 0 where
+pub record Creates {T : Type 0} {R : Type 0} (kind : TableKind T) (held : T) (old new : FunctionBuilder R) (answer : Result ℕ BuildError) : Type 0 where
   pub sets : SetsTables (kind.with_table old.func.now.tables held) old new answer
   pub number : IfOk answer (λ number. number ≡ length (kind.tables old.func.now.tables))
   pub serves : IfOk answer (λ number. table_held kind new number ≡ Some held)
@@ -91,30 +91,30 @@ pub record Creates {T : Type 0} (kind : TableKind T) (held : T) (old new : Funct
   pub full : (answer ≡ Err Full) ↔ ((old.failed ≡ false) × (length (kind.tables old.func.now.tables) ≡ 2 ^ 32 - 1))
 
 -- A jump table of these edges, the default first, is created.
-abbrev pub CreatesJumpTable : List BlockCall → FunctionBuilder → FunctionBuilder → Result ℕ BuildError → Type 0
+abbrev pub CreatesJumpTable : {R : Type 0} → List BlockCall → FunctionBuilder R → FunctionBuilder R → Result ℕ BuildError → Type 0
 CreatesJumpTable edges old new answer = Creates jump_tables edges old new answer
 
 -- An exception table of this signature, normal edge and items is created.
-abbrev pub CreatesExceptionTable : ExceptionTableData → FunctionBuilder → FunctionBuilder → Result ℕ BuildError → Type 0
+abbrev pub CreatesExceptionTable : {R : Type 0} → ExceptionTableData → FunctionBuilder R → FunctionBuilder R → Result ℕ BuildError → Type 0
 CreatesExceptionTable table old new answer = Creates exception_tables (exception_shape table) old new answer
 
 -- The answer is what a table of this kind holds, which serves an instruction from now on.
-pub record Takes {T : Type 0} (kind : TableKind T) (old new : FunctionBuilder) (table : ℕ) (answer : Result T BuildError) : Type 0 where
+pub record Takes {T : Type 0} {R : Type 0} (kind : TableKind T) (old new : FunctionBuilder R) (table : ℕ) (answer : Result T BuildError) : Type 0 where
   pub sets : SetsTables (kind.with_served old.func.now.tables table) old new answer
   pub held : IfOk answer (λ held. table_held kind old table ≡ Some held)
   pub can_be_named : MayServeFor kind old table → IfOk answer (CanBeNamed kind new)
   pub only_failed : OnErr answer (answer ≡ Err Failed)
 
 -- the edges of a jump table are taken
-abbrev pub TakesJumpTable : FunctionBuilder → FunctionBuilder → ℕ → Result (List BlockCall) BuildError → Type 0
+abbrev pub TakesJumpTable : {R : Type 0} → FunctionBuilder R → FunctionBuilder R → ℕ → Result (List BlockCall) BuildError → Type 0
 TakesJumpTable old new table answer = Takes jump_tables old new table answer
 
 -- an exception table is taken
-abbrev pub TakesExceptionTable : FunctionBuilder → FunctionBuilder → ℕ → Result ExceptionShape BuildError → Type 0
+abbrev pub TakesExceptionTable : {R : Type 0} → FunctionBuilder R → FunctionBuilder R → ℕ → Result ExceptionShape BuildError → Type 0
 TakesExceptionTable old new table answer = Takes exception_tables old new table answer
 
 -- The answer is an edge to a block that passes these arguments. Nothing changes.
-pub record MakesEdge (block : ℕ) (args : List BlockArg) (old new : FunctionBuilder) (answer : Result BlockCall BuildError) : Type 0 where
+pub record MakesEdge {R : Type 0} (block : ℕ) (args : List BlockArg) (old new : FunctionBuilder R) (answer : Result BlockCall BuildError) : Type 0 where
   pub sets : SetsTables old.func.now.tables old new answer
   pub grows : OnOk answer (Grows old.func.now new.func.now)
   pub edge : IfOk answer (λ edge. edge ≡ record { block = block; args = args })

@@ -37,26 +37,26 @@ abbrev pub NoRoomFor : Body → ℕ → Type 0
 NoRoomFor f count = (made : ℕ) × (made < count) × (length f.values + made ≡ 2 ^ 32 - 1)
 
 -- the block's record of the variable stays, if there is one, and values that stand for one value go on doing so
-abbrev pub RemembersIn : ℕ → ℕ → FunctionBuilder → FunctionBuilder → Type 0
-RemembersIn variable block old new = Remembers variable block old.func.now old.ctx.now.ssa new.func.now new.ctx.now.ssa
+abbrev pub RemembersIn : {R : Type 0} → ℕ → ℕ → FunctionBuilder R → FunctionBuilder R → Type 0
+RemembersIn variable block old new = Remembers variable block old.func.now old.ctx.now.parts.ssa new.func.now new.ctx.now.parts.ssa
 
 -- the block's record of the variable stands for the same value as this one
-abbrev pub HasRecordIn : FunctionBuilder → ℕ → ℕ → ℕ → Type 0
-HasRecordIn b variable block value = HasRecordOf b.func.now b.ctx.now.ssa variable block value
+abbrev pub HasRecordIn : {R : Type 0} → FunctionBuilder R → ℕ → ℕ → ℕ → Type 0
+HasRecordIn b variable block value = HasRecordOf b.func.now b.ctx.now.parts.ssa variable block value
 
 -- each builder remembers what the one before it had on record for the variable in the block
-abbrev pub AreCalls : ℕ → ℕ → FunctionBuilder → List FunctionBuilder → Type 0
+abbrev pub AreCalls : {R : Type 0} → ℕ → ℕ → FunctionBuilder R → List (FunctionBuilder R) → Type 0
 AreCalls variable block b [] = Unit {0}
 AreCalls variable block b (next ∷ builders) = RemembersIn variable block b next × AreCalls variable block next builders
 
-abbrev pub last_builder : FunctionBuilder → List FunctionBuilder → FunctionBuilder
+abbrev pub last_builder : {R : Type 0} → FunctionBuilder R → List (FunctionBuilder R) → FunctionBuilder R
 last_builder b [] = b
 last_builder b (next ∷ builders) = last_builder next builders
 
 -- Two uses of a variable in a block: where no call between them assigns it there, their answers stand for one value.
-abbrev pub BuilderUsesAgree : Type 0
-BuilderUsesAgree =
-    (variable block first second : ℕ) (b : FunctionBuilder) (builders : List FunctionBuilder)
+abbrev pub BuilderUsesAgree : (R : Type 0) → Type 0
+BuilderUsesAgree R =
+    (variable block first second : ℕ) (b : FunctionBuilder R) (builders : List (FunctionBuilder R))
     → HasRecordIn b variable block first
     → AreCalls variable block b builders
     → HasRecordIn (last_builder b builders) variable block second

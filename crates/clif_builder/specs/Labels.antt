@@ -14,10 +14,10 @@ use Rattle.clif_builder.specs.Ledger.{AgreesWithLedger}
 use Rattle.clif_builder.specs.StandsFor.{StandsFor}
 
 -- labels are kept from now on, and nothing else changes: what the function means has no labels
-pub record CollectsLabels (old new : FunctionBuilder) : Type 0 where
+pub record CollectsLabels {R : Type 0} (old new : FunctionBuilder R) : Type 0 where
   pub loans : SameLoans old new
   pub function : new.func.now ≡ with_tables old.func.now (with_labels_collected old.func.now.tables)
-  pub context : new.ctx.now ≡ old.ctx.now
+  pub context : new.ctx.now.parts ≡ old.ctx.now.parts
   pub position : new.position ≡ old.position
   pub srcloc : new.srcloc ≡ old.srcloc
   pub failed : new.failed ≡ old.failed
@@ -28,11 +28,11 @@ pub record CollectsLabels (old new : FunctionBuilder) : Type 0 where
   pub current : HasCurrent old → HasCurrent new
 
 -- the tables with one label more of a value, which begins at the builder's source place; as they are unless labels are collected
-abbrev pub labelled : FunctionBuilder → ℕ → ℕ → TableLists
+abbrev pub labelled : {R : Type 0} → FunctionBuilder R → ℕ → ℕ → TableLists
 labelled b value label = with_label b.func.now.tables value (record { from = b.srcloc; label = label })
 
 -- the value has one label more, and nothing else changes
-pub record SetsLabel (value label : ℕ) (old new : FunctionBuilder) (answer : Result (Unit {0}) BuildError) : Type 0 where
+pub record SetsLabel {R : Type 0} (value label : ℕ) (old new : FunctionBuilder R) (answer : Result (Unit {0}) BuildError) : Type 0 where
   pub sets : SetsTables (labelled old value label) old new answer
   pub grows : OnOk answer (Grows old.func.now new.func.now)
   pub never_full : answer ≢ Err Full

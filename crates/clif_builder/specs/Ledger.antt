@@ -209,9 +209,13 @@ pub record LedgerAgrees (calls : List AnsweredCall) (ledger : Ledger) (f : Body)
   -- a block that doesn't exist yet is neither sealed nor begun, and nothing leads to it
   pub fresh : (k : ℕ) → length f.blocks ≤ k → (is_yes (sealed_of c.ssa k) ≡ false) × (status_of c k ≡ Empty) × (predecessors_of c.ssa k ≡ [])
 
+-- the ledger of the calls agrees with these parts of a builder
+abbrev pub AgreesIn : List AnsweredCall → Body → ContextState → Option ℕ → Type 0
+AgreesIn calls f c position = LedgerAgrees calls (ledger_of calls) f c position
+
 -- the ledger of the calls that were made on a builder agrees with it
-abbrev pub AgreesWithLedger : List AnsweredCall → FunctionBuilder → Type 0
-AgreesWithLedger calls b = LedgerAgrees calls (ledger_of calls) b.func.now b.ctx.now b.position
+abbrev pub AgreesWithLedger : {R : Type 0} → List AnsweredCall → FunctionBuilder R → Type 0
+AgreesWithLedger calls b = LedgerAgrees calls (ledger_of calls) b.func.now b.ctx.now.parts b.position
 
 -- what `finalize` answers is the refusal of the ledger, with the number of the block
 abbrev pub RefusalAgrees : List AnsweredCall → Option Refusal → Result (Unit {0}) FinalizeError → Type 0

@@ -26,11 +26,10 @@ use Rattle.clif_meaning.specs.Name.{Name, same_name}
 use Rattle.clif_meaning.specs.Request.{AnsweredCall, Annotate, Build, GivenEntry, MakeEdge, MakeExceptionTable, MakeJumpTable, Request, TableItem}
 use Rattle.clif_meaning.specs.Ledger.{BlockState, ExceptionTable, block_state, has_block, is_inserted, type_of, unserved_edges, unserved_exceptions, variable_type}
 use Rattle.clif_types.specs.Signature.{SignatureShape}
-use Rattle.clif_builder.specs.declared.builder.FunctionBuilder.{FunctionBuilder}
 use Rattle.clif_builder.specs.Calls.{answered}
 use Rattle.clif_builder.specs.Context.{ContextState}
-use Rattle.clif_builder.specs.StandsFor.{StandsFor}
-use Rattle.clif_builder.specs.Ledger.{AgreesWithLedger, BlockAgrees, HasShape, LedgerAgrees, NamesBlock, NamesEdge, NamesEdges, NamesExceptions, NamesValue, NamesValues, block_name, ledger_of, value_type, was_touched}
+use Rattle.clif_builder.specs.StandsFor.{StandsIn}
+use Rattle.clif_builder.specs.Ledger.{AgreesIn, BlockAgrees, HasShape, LedgerAgrees, NamesBlock, NamesEdge, NamesEdges, NamesExceptions, NamesValue, NamesValues, block_name, ledger_of, value_type, was_touched}
 use Rattle.clif_builder.specs.Marks.{IsUnused}
 
 -- this request asks for an instruction of this shape, made at this type
@@ -99,29 +98,29 @@ pub record AskForTheirShapes (calls : List AnsweredCall) (f : Body) : Type 0 whe
 -- Edges, jump tables and exception tables that a list makes add nothing to what a builder stands for: they reach the function
 -- with the instruction that they serve. The numbers of tables count those of the list.
 pub record TableCallsAddNothing : Type 0 where
-  pub edge_ledger : (calls : List AnsweredCall) (b : FunctionBuilder) (edge : Edge Name Name) (number : ℕ)
-      → AgreesWithLedger calls b → AgreesWithLedger (calls ++ answered (MakeEdge edge) (number ∷ []) ∷ []) b
-  pub edge : (signature : SignatureShape) (calls : List AnsweredCall) (b : FunctionBuilder) (edge : Edge Name Name) (number : ℕ)
-      → StandsFor signature calls b → StandsFor signature (calls ++ answered (MakeEdge edge) (number ∷ []) ∷ []) b
-  pub table_ledger : (calls : List AnsweredCall) (b : FunctionBuilder) (default : Name) (entries : List Name) (number : ℕ)
-      → number ≡ length (ledger_of calls).jump_tables → AgreesWithLedger calls b
-      → AgreesWithLedger (calls ++ answered (MakeJumpTable default entries) (number ∷ []) ∷ []) b
-  pub table : (signature : SignatureShape) (calls : List AnsweredCall) (b : FunctionBuilder) (default : Name) (entries : List Name) (number : ℕ)
-      → number ≡ length (ledger_of calls).jump_tables → StandsFor signature calls b
-      → StandsFor signature (calls ++ answered (MakeJumpTable default entries) (number ∷ []) ∷ []) b
-  pub exceptions_ledger : (calls : List AnsweredCall) (b : FunctionBuilder) (callee : ℕ) (normal : Name) (items : List TableItem) (number : ℕ)
-      → number ≡ length (ledger_of calls).exception_tables → AgreesWithLedger calls b
-      → AgreesWithLedger (calls ++ answered (MakeExceptionTable callee normal items) (number ∷ []) ∷ []) b
-  pub exceptions : (signature : SignatureShape) (calls : List AnsweredCall) (b : FunctionBuilder) (callee : ℕ) (normal : Name) (items : List TableItem) (number : ℕ)
-      → number ≡ length (ledger_of calls).exception_tables → StandsFor signature calls b
-      → StandsFor signature (calls ++ answered (MakeExceptionTable callee normal items) (number ∷ []) ∷ []) b
+  pub edge_ledger : (calls : List AnsweredCall) (f : Body) (c : ContextState) (position : Option ℕ) (edge : Edge Name Name) (number : ℕ)
+      → AgreesIn calls f c position → AgreesIn (calls ++ answered (MakeEdge edge) (number ∷ []) ∷ []) f c position
+  pub edge : (signature : SignatureShape) (calls : List AnsweredCall) (f : Body) (c : ContextState) (position : Option ℕ) (edge : Edge Name Name) (number : ℕ)
+      → StandsIn signature calls f c position → StandsIn signature (calls ++ answered (MakeEdge edge) (number ∷ []) ∷ []) f c position
+  pub table_ledger : (calls : List AnsweredCall) (f : Body) (c : ContextState) (position : Option ℕ) (default : Name) (entries : List Name) (number : ℕ)
+      → number ≡ length (ledger_of calls).jump_tables → AgreesIn calls f c position
+      → AgreesIn (calls ++ answered (MakeJumpTable default entries) (number ∷ []) ∷ []) f c position
+  pub table : (signature : SignatureShape) (calls : List AnsweredCall) (f : Body) (c : ContextState) (position : Option ℕ) (default : Name) (entries : List Name) (number : ℕ)
+      → number ≡ length (ledger_of calls).jump_tables → StandsIn signature calls f c position
+      → StandsIn signature (calls ++ answered (MakeJumpTable default entries) (number ∷ []) ∷ []) f c position
+  pub exceptions_ledger : (calls : List AnsweredCall) (f : Body) (c : ContextState) (position : Option ℕ) (callee : ℕ) (normal : Name) (items : List TableItem) (number : ℕ)
+      → number ≡ length (ledger_of calls).exception_tables → AgreesIn calls f c position
+      → AgreesIn (calls ++ answered (MakeExceptionTable callee normal items) (number ∷ []) ∷ []) f c position
+  pub exceptions : (signature : SignatureShape) (calls : List AnsweredCall) (f : Body) (c : ContextState) (position : Option ℕ) (callee : ℕ) (normal : Name) (items : List TableItem) (number : ℕ)
+      → number ≡ length (ledger_of calls).exception_tables → StandsIn signature calls f c position
+      → StandsIn signature (calls ++ answered (MakeExceptionTable callee normal items) (number ∷ []) ∷ []) f c position
 
 -- Nor do the notes that a list makes.
 pub record NotesAddNothing : Type 0 where
-  pub ledger : (calls : List AnsweredCall) (b : FunctionBuilder) (inside : Bool) (values : List Name)
-      → AgreesWithLedger calls b → AgreesWithLedger (calls ++ answered (Annotate inside values) [] ∷ []) b
-  pub stands : (signature : SignatureShape) (calls : List AnsweredCall) (b : FunctionBuilder) (inside : Bool) (values : List Name)
-      → StandsFor signature calls b → StandsFor signature (calls ++ answered (Annotate inside values) [] ∷ []) b
+  pub ledger : (calls : List AnsweredCall) (f : Body) (c : ContextState) (position : Option ℕ) (inside : Bool) (values : List Name)
+      → AgreesIn calls f c position → AgreesIn (calls ++ answered (Annotate inside values) [] ∷ []) f c position
+  pub stands : (signature : SignatureShape) (calls : List AnsweredCall) (f : Body) (c : ContextState) (position : Option ℕ) (inside : Bool) (values : List Name)
+      → StandsIn signature calls f c position → StandsIn signature (calls ++ answered (Annotate inside values) [] ∷ []) f c position
 
 -- They do where the ledger agrees with a builder's parts.
 abbrev pub RequestsAskForTheirShapes : Type 0

@@ -1,5 +1,6 @@
 pub mod Errors
 pub mod Context
+pub mod Clear
 pub mod Builder
 pub mod Construction
 pub mod Ending

@@ -20,25 +20,25 @@ abbrev pub IsUnused : ContextState → ℕ → Type 0
 IsUnused c variable = (block : ℕ) → record_of c.ssa variable block ≡ None
 
 -- A call of the builder changes what is tracked, and nothing else. After an error nothing has changed.
-pub record TracksFrom (old new : FunctionBuilder) (answer : Result (Unit {0}) BuildError) (tracked : Tracked) : Type 0 where
+pub record TracksFrom {R : Type 0} (old new : FunctionBuilder R) (answer : Result (Unit {0}) BuildError) (tracked : Tracked) : Type 0 where
   pub call : IsCall old new answer
   pub function : new.func.now ≡ old.func.now
-  pub context : OnOk answer (new.ctx.now ≡ with_tracking old.ctx.now tracked)
-  pub kept : OnErr answer (new.ctx.now ≡ old.ctx.now)
+  pub context : OnOk answer (new.ctx.now.parts ≡ with_tracking old.ctx.now.parts tracked)
+  pub kept : OnErr answer (new.ctx.now.parts ≡ old.ctx.now.parts)
   pub never_full : answer ≢ Err Full
   pub grows : OnOk answer (Grows old.func.now new.func.now)
   pub remembers : (x b : ℕ) → OnOk answer (RemembersIn x b old new)
   pub current : HasCurrent old → OnOk answer (HasCurrent new)
 
 -- the variable is marked
-abbrev pub MarksVariable : FunctionBuilder → FunctionBuilder → Result (Unit {0}) BuildError → ℕ → Type 0
-MarksVariable old new answer variable = TracksFrom old new answer (with_mark old.ctx.now.ssa.tracking variable)
+abbrev pub MarksVariable : {R : Type 0} → FunctionBuilder R → FunctionBuilder R → Result (Unit {0}) BuildError → ℕ → Type 0
+MarksVariable old new answer variable = TracksFrom old new answer (with_mark old.ctx.now.parts.ssa.tracking variable)
 
 -- the value is recorded
-abbrev pub RecordsValue : FunctionBuilder → FunctionBuilder → Result (Unit {0}) BuildError → ℕ → Type 0
-RecordsValue old new answer value = TracksFrom old new answer (with_recorded old.ctx.now.ssa.tracking value)
+abbrev pub RecordsValue : {R : Type 0} → FunctionBuilder R → FunctionBuilder R → Result (Unit {0}) BuildError → ℕ → Type 0
+RecordsValue old new answer value = TracksFrom old new answer (with_recorded old.ctx.now.parts.ssa.tracking value)
 
 -- a value of the function whose type fits
-pub record ValueFits (b : FunctionBuilder) (value : ℕ) : Type 0 where
+pub record ValueFits {R : Type 0} (b : FunctionBuilder R) (value : ℕ) : Type 0 where
   pub exists : value < length b.func.now.values
   pub fits : FitsStackMap (value_at b.func.now value).ty

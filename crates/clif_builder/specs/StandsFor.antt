@@ -30,5 +30,5 @@ pub record StandsIn (declared : SignatureShape) (calls : List AnsweredCall) (f :
   pub callers_alone : (block : ℕ) → HasCallersAlone calls f block ⊎ IsBegun f c block
 
 -- the builder stands for the list of calls
-abbrev pub StandsFor : SignatureShape → List AnsweredCall → FunctionBuilder → Type 0
-StandsFor declared calls b = StandsIn declared calls b.func.now b.ctx.now b.position
+abbrev pub StandsFor : {R : Type 0} → SignatureShape → List AnsweredCall → FunctionBuilder R → Type 0
+StandsFor declared calls b = StandsIn declared calls b.func.now b.ctx.now.parts b.position

@@ -22,7 +22,7 @@ use crate::frontend::begin_block;
 use clif_ir::Function;
 use clif_types::{Block, BuildError, Type, Value};
 
-impl<'a> FunctionBuilder<'a> {
+impl<'a, R> FunctionBuilder<'a, R> {
     /// The parameters of a block, in order: the caller's own, followed by those that were made for variables.
     pub fn block_params(&self, block: Block) -> &[Value]
         requires { block < length self.now.func.now.blocks }
@@ -46,7 +46,7 @@ impl<'a> FunctionBuilder<'a> {
         requires inside { Stands after self.old.func.now.layout }
         ensures call { IsCall self.old self.new result }
         ensures function { OnOk result (self.new.func.now ≡ with_layout_after self.old.func.now block after) }
-        ensures context { self.new.ctx.now ≡ self.old.ctx.now }
+        ensures context { self.new.ctx.now.parts ≡ self.old.ctx.now.parts }
         ensures never_full { result ≢ Err BuildError.Full }
         ensures never_memory { result ≢ Err BuildError.Memory }
         ensures told { (name behind : Name) → IsTold self.old self.new result
@@ -69,7 +69,7 @@ impl<'a> FunctionBuilder<'a> {
         requires exists { block < length self.old.func.now.blocks }
         ensures loans { SameLoans self.old self.new }
         ensures function { self.new.func.now ≡ with_cold self.old.func.now block }
-        ensures context { self.new.ctx.now ≡ self.old.ctx.now }
+        ensures context { self.new.ctx.now.parts ≡ self.old.ctx.now.parts }
         ensures position { self.new.position ≡ self.old.position }
         ensures srcloc { self.new.srcloc ≡ self.old.srcloc }
         ensures failed { self.new.failed ≡ self.old.failed }
@@ -95,9 +95,9 @@ impl<'a> FunctionBuilder<'a> {
         requires current { HasCurrent self.old }
         ensures call { IsCall self.old self.new result }
         ensures function { IfSome self.old.position (λ block. OnOk result (self.new.func.now ≡ inserted_in self.old.func.now block)) }
-        ensures status { IfSome self.old.position (λ block. OnOk result (SetsStatus self.old.ctx.now self.new.ctx.now block (begun (status_of self.old.ctx.now block)))) }
-        ensures ssa { self.new.ctx.now.ssa ≡ self.old.ctx.now.ssa }
-        ensures variables { self.new.ctx.now.variables ≡ self.old.ctx.now.variables }
+        ensures status { IfSome self.old.position (λ block. OnOk result (SetsStatus self.old.ctx.now.parts self.new.ctx.now.parts block (begun (status_of self.old.ctx.now.parts block)))) }
+        ensures ssa { self.new.ctx.now.parts.ssa ≡ self.old.ctx.now.parts.ssa }
+        ensures variables { self.new.ctx.now.parts.variables ≡ self.old.ctx.now.parts.variables }
         ensures never_full { result ≢ Err BuildError.Full }
         ensures told { IsTold self.old self.new result
             (λ _. Unit {0})
@@ -112,7 +112,7 @@ impl<'a> FunctionBuilder<'a> {
         let Some(block) = self.position else {
             unreachable!();
         };
-        let begun = begin_block(self.func, self.ctx, block);
+        let begun = begin_block(self.func, &mut self.ctx.parts, block);
         self.failed = begun.is_err();
         begun
     }
@@ -128,12 +128,12 @@ impl<'a> FunctionBuilder<'a> {
     /// earlier call. The block has the parameters that it had then, and the builder has failed.
     pub fn append_block_param(&mut self, block: Block, ty: Type) -> Result<Value, BuildError>
         requires exists { block < length self.old.func.now.blocks }
-        requires pristine { status_of self.old.ctx.now block ≡ BlockStatus.Empty }
+        requires pristine { status_of self.old.ctx.now.parts block ≡ BlockStatus.Empty }
         ensures call { IsCall self.old self.new result }
         ensures function { OnOk result (self.new.func.now ≡ with_param self.old.func.now block ty) }
         ensures number { IfOk result (λ value. value ≡ length self.old.func.now.values) }
         ensures typed { IfOk result (λ value. (value_at self.new.func.now value).ty ≡ ty) }
-        ensures context { self.new.ctx.now ≡ self.old.ctx.now }
+        ensures context { self.new.ctx.now.parts ≡ self.old.ctx.now.parts }
         ensures full { result ≡ Err BuildError.Full → length self.old.func.now.values ≡ 2 ^ 32 - 1 }
         ensures told { (name : Name) → IsTold self.old self.new result
             (λ calls. NamesBlock calls name block)
@@ -167,11 +167,11 @@ impl<'a> FunctionBuilder<'a> {
         block: Block,
     ) -> Result<(), BuildError>
         requires exists { block < length self.old.func.now.blocks }
-        requires pristine { status_of self.old.ctx.now block ≡ BlockStatus.Empty }
-        requires alone { predecessors_of self.old.ctx.now.ssa block ≡ [] }
+        requires pristine { status_of self.old.ctx.now.parts block ≡ BlockStatus.Empty }
+        requires alone { predecessors_of self.old.ctx.now.parts.ssa block ≡ [] }
         ensures call { IsCall self.old self.new result }
         ensures function { OnOk result (self.new.func.now ≡ with_params self.old.func.now block (types_of self.old.func.now.signature.params)) }
-        ensures context { self.new.ctx.now ≡ self.old.ctx.now }
+        ensures context { self.new.ctx.now.parts ≡ self.old.ctx.now.parts }
         ensures full { result ≡ Err BuildError.Full → length self.new.func.now.values ≡ 2 ^ 32 - 1 }
         ensures room { result ≡ Err BuildError.Full →
             NoRoomFor self.old.func.now (length self.old.func.now.signature.params) }
@@ -203,10 +203,10 @@ impl<'a> FunctionBuilder<'a> {
         block: Block,
     ) -> Result<(), BuildError>
         requires exists { block < length self.old.func.now.blocks }
-        requires pristine { status_of self.old.ctx.now block ≡ BlockStatus.Empty }
+        requires pristine { status_of self.old.ctx.now.parts block ≡ BlockStatus.Empty }
         ensures call { IsCall self.old self.new result }
         ensures function { OnOk result (self.new.func.now ≡ with_params self.old.func.now block (types_of self.old.func.now.signature.returns)) }
-        ensures context { self.new.ctx.now ≡ self.old.ctx.now }
+        ensures context { self.new.ctx.now.parts ≡ self.old.ctx.now.parts }
         ensures full { result ≡ Err BuildError.Full → length self.new.func.now.values ≡ 2 ^ 32 - 1 }
         ensures room { result ≡ Err BuildError.Full →
             NoRoomFor self.old.func.now (length self.old.func.now.signature.returns) }

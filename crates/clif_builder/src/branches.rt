@@ -16,12 +16,12 @@ ghost use Rattle.clif_builder.specs.Ledger.{NamesBlock, NamesInstruction};
 use crate::builder::FunctionBuilder;
 use clif_types::{Block, BuildError, Inst};
 
-impl<'a> FunctionBuilder<'a> {
+impl<'a, R> FunctionBuilder<'a, R> {
     /// Whether a branch was declared as a predecessor of a block: whether one of its edges leads there.
     pub fn leads_to(&self, inst: Inst, block: Block) -> bool
-        ensures { IsTrue result ↔ Stands inst (predecessors_of self.now.ctx.now.ssa block) }
+        ensures { IsTrue result ↔ Stands inst (predecessors_of self.now.ctx.now.parts.ssa block) }
     {
-        let ctx = &*self.ctx;
+        let ctx = &self.ctx.parts;
         ctx.ssa.leads_to(inst, block)
     }
 
@@ -44,12 +44,12 @@ impl<'a> FunctionBuilder<'a> {
     ) -> Result<(), BuildError>
         requires inst_exists { inst < length self.old.func.now.insts }
         requires target_exists { new_block < length self.old.func.now.blocks }
-        requires old_unsealed { is_yes (sealed_of self.old.ctx.now.ssa old_block) ≡ false }
-        requires new_unsealed { is_yes (sealed_of self.old.ctx.now.ssa new_block) ≡ false }
-        requires leads { Stands inst (predecessors_of self.old.ctx.now.ssa old_block) }
+        requires old_unsealed { is_yes (sealed_of self.old.ctx.now.parts.ssa old_block) ≡ false }
+        requires new_unsealed { is_yes (sealed_of self.old.ctx.now.parts.ssa new_block) ≡ false }
+        requires leads { Stands inst (predecessors_of self.old.ctx.now.parts.ssa old_block) }
         ensures call { IsCall self.old self.new result }
-        ensures redirects { OnOk result (Redirects self.old.func.now self.old.ctx.now self.new.func.now self.new.ctx.now inst old_block new_block) }
-        ensures kept { OnErr result ((self.new.func.now ≡ self.old.func.now) × SamePredecessors self.old.ctx.now.ssa self.new.ctx.now.ssa) }
+        ensures redirects { OnOk result (Redirects self.old.func.now self.old.ctx.now.parts self.new.func.now self.new.ctx.now.parts inst old_block new_block) }
+        ensures kept { OnErr result ((self.new.func.now ≡ self.old.func.now) × SamePredecessors self.old.ctx.now.parts.ssa self.new.ctx.now.parts.ssa) }
         ensures never_full { result ≢ Err BuildError.Full }
         ensures stands { (signature : SignatureShape) (calls : List AnsweredCall) (branch from to : Name) → StandsFor signature calls self.old → NamesInstruction calls branch inst → NamesBlock calls from old_block → NamesBlock calls to new_block → OnOk result (StandsFor signature (calls ++ answered (ChangeJumpDestination branch from to) [] ∷ []) self.new) }
         ensures grows { OnOk result (Grows self.old.func.now self.new.func.now) }
@@ -60,7 +60,10 @@ impl<'a> FunctionBuilder<'a> {
             return Err(BuildError::Failed);
         }
         self.func.law_consistent();
-        let moved = self.ctx.move_branch(inst, old_block, new_block, self.func);
+        let moved = self
+            .ctx
+            .parts
+            .move_branch(inst, old_block, new_block, self.func);
         self.failed = moved.is_err();
         moved
     }

@@ -1,8 +1,10 @@
 //! What is kept while a function is built, and used again for the next one.
+ghost use Rattle.clif_builder.specs.Clear.{IsClear};
 ghost use Rattle.std.specs.Prelude.{◌≡◌, ◌==◌, ◌≢◌, ◌↔◌, ◌<◌, ◌-◌, ◌^◌, ◌++◌, [], ◌∷◌, ℕ, List, IsTrue, length, OnOk, OnErr, IfOk, slice_index_or, slice_get, IfSome, None, true, false, ◌+◌, if◌then◌else◌, Contains};
 
 use crate::error::FinalizeError;
 use clif_ir::{BlockCall, Function};
+use clif_regions::Callback;
 use clif_spiller::SafepointSpiller;
 use clif_ssa::{SSABuilder, Variable};
 use clif_types::{Block, BuildError, EntityRef, EntitySet, Inst, Type, Value};
@@ -88,10 +90,8 @@ impl StatusTable {
     }
 }
 
-/// What is kept while a function is built, and used again for the next one.
-///
-/// It is cleared by `finalize`, and keeps its memory.
-pub struct FunctionBuilderContext {
+/// What a context keeps of the function that is built: all but the callback for alias regions.
+pub struct ContextParts {
     pub(crate) alloc: Global,
     pub(crate) ssa: SSABuilder,
     pub(crate) status: StatusTable,
@@ -103,9 +103,9 @@ pub struct FunctionBuilderContext {
 }
 
 // By hand: a derived one is proved anew at each way out of a function that holds such a value.
-impl Drop for FunctionBuilderContext {
+impl Drop for ContextParts {
     fn drop(self) {
-        let FunctionBuilderContext {
+        let ContextParts {
             alloc: _,
             ssa: _,
             status: _,
@@ -116,7 +116,7 @@ impl Drop for FunctionBuilderContext {
     }
 }
 
-impl Model for FunctionBuilderContext {
+impl Model for ContextParts {
     ghost use Rattle.std.specs.Prelude.{length, ◌<◌, ◌^◌};
     ghost use Rattle.clif_builder.specs.Context.{ContextState, context_code};
 
@@ -129,7 +129,7 @@ impl Model for FunctionBuilderContext {
     ghost invariant = { λ c. length c.variables.items < 2 ^ 32 };
 }
 
-impl FunctionBuilderContext {
+impl ContextParts {
     ghost use Rattle.clif_builder.specs.Context.{Begins, SameVariables, SetsStatus, TouchesVariable, empty_context, is_untouched, status_of};
     ghost use Rattle.clif_builder.specs.Construction.{IsUse, IsSealing, IsSealingAll, IsDeclared};
     ghost use Rattle.clif_ir.specs.Body.{Body, empty_function};
@@ -140,8 +140,7 @@ impl FunctionBuilderContext {
     ghost use Rattle.clif_records.specs.Tracking.{recorded_of, with_binding, with_mark, with_recorded};
     ghost use Rattle.clif_builder.specs.Tracking.{RecordedFits, with_tracking};
     ghost use Rattle.clif_builder.specs.Ending.{TellsSpill};
-    ghost use Rattle.clif_spiller.specs.Keeping.{Keeps};
-    ghost use Rattle.clif_spiller.specs.Spills.{Spills};
+    ghost use Rattle.clif_spiller.specs.Regions.{SpillsAndAsks};
     ghost use Rattle.clif_ssa.specs.LookUp.{UsesVariable};
     ghost use Rattle.clif_ssa.specs.Running.{stage, found};
     ghost use Rattle.clif_ssa.specs.Sealing.{SealsBelow, SealsByLookUp};
@@ -152,11 +151,11 @@ impl FunctionBuilderContext {
     ghost use Rattle.clif_ssa.specs.Constructs.{OnlyConstructs};
     ghost use Rattle.clif_records.specs.Tables.{is_yes, pending_of};
 
-    /// A context for a first function.
+    /// Nothing is kept yet.
     pub fn new(alloc: Global) -> Self
         ensures { result ≡ empty_context }
     {
-        FunctionBuilderContext {
+        ContextParts {
             alloc,
             ssa: SSABuilder::new(alloc),
             status: StatusTable::new(alloc),
@@ -176,7 +175,7 @@ impl FunctionBuilderContext {
         self.touched = EntitySet::new(self.alloc);
     }
 
-    /// Whether the context is as a new one.
+    /// Whether nothing is kept.
     pub fn is_empty(&self) -> bool
         ensures { IsTrue result ↔ (self.now ≡ empty_context) }
     {
@@ -266,18 +265,24 @@ impl FunctionBuilderContext {
     }
 
     /// Spills the recorded values that are live across calls that are reached, and makes stack maps. `pointer` is the type of
-    /// addresses. After an error the function is empty: what was spilled so far is of no use.
-    pub(crate) fn spill(&mut self, func: &mut Function, pointer: Type) -> Result<(), FinalizeError>
+    /// addresses; `region` is asked for the alias region of each access, if there is one. After an error the function is empty:
+    /// what was spilled so far is of no use.
+    pub(crate) fn spill(
+        &mut self,
+        func: &mut Function,
+        pointer: Type,
+        region: &Option<Callback>,
+    ) -> Result<(), FinalizeError>
         requires { RecordedFits func.old (recorded_of self.old.ssa.tracking) }
         ensures answer { TellsSpill result }
-        ensures kept { OnOk result (Keeps (length func.old.blocks) func.old func.new) }
-        ensures spills { OnOk result (Spills func.old (recorded_of self.old.ssa.tracking) pointer func.new) }
+        ensures spilled { OnOk result (SpillsAndAsks func.old (recorded_of self.old.ssa.tracking) pointer
+            region.now (λ c. post (c.ask.vtable, c.ask.value)) func.new) }
         ensures emptied { OnErr result (func.new ≡ empty_function) }
         ensures context { self.new ≡ self.old }
     {
         match self
             .safepoints
-            .run(func, self.ssa.stack_map_values(), pointer)
+            .run(func, self.ssa.stack_map_values(), pointer, region)
         {
             Ok(()) => Ok(()),
             Err(error) => {
@@ -454,5 +459,51 @@ impl FunctionBuilderContext {
             }
         }
         Ok(())
+    }
+}
+
+/// What is kept while a function is built, and used again for the next one.
+///
+/// It is cleared by `finalize`, and keeps its memory.
+pub struct FunctionBuilderContext<R = Callback> {
+    pub(crate) parts: ContextParts,
+    // What is asked for the alias regions of accesses to spilled values, if the caller gave it.
+    pub(crate) region: Option<R>,
+}
+
+// By hand, as that of its parts.
+impl<R: Drop> Drop for FunctionBuilderContext<R> {
+    fn drop(self) {
+        let FunctionBuilderContext {
+            parts: _,
+            region: _,
+        } = self;
+    }
+}
+
+impl FunctionBuilderContext {
+    /// A context for a first function.
+    pub fn new(alloc: Global) -> Self
+        ensures { IsClear result }
+    {
+        FunctionBuilderContext {
+            parts: ContextParts::new(alloc),
+            region: None,
+        }
+    }
+
+    /// Whether the context is as a new one. A callback that a builder was given and no `finalize` has dropped counts, too.
+    pub fn is_empty(&self) -> bool
+        ensures { IsTrue result ↔ IsClear self.now }
+    {
+        self.parts.is_empty() && self.region.is_none()
+    }
+
+    /// Forgets everything, the callback too.
+    pub(crate) fn clear(&mut self)
+        ensures { IsClear self.new }
+    {
+        self.parts.clear();
+        self.region = None;
     }
 }

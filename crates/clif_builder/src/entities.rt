@@ -11,7 +11,7 @@ use clif_types::{
     FuncRef, GlobalValue, GlobalValueData, JumpTable, SigRef, Signature, StackSlot, StackSlotData,
 };
 
-impl<'a> FunctionBuilder<'a> {
+impl<'a, R> FunctionBuilder<'a, R> {
     /// Makes a stack slot of a fixed size in the function, and returns its number: `ss0`, `ss1`, and so on.
     ///
     /// It may be made at any time.
@@ -121,7 +121,7 @@ impl<'a> FunctionBuilder<'a> {
             return Err(BuildError::Failed);
         }
         self.func.law_consistent();
-        let ctx = &*self.ctx;
+        let ctx = &self.ctx.parts;
         let edge = BlockCall::new(ctx.alloc, block, args);
         self.failed = edge.is_err();
         edge

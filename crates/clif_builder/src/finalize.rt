@@ -11,17 +11,18 @@ ghost use Rattle.clif_meaning.specs.View.{view_of};
 ghost use Rattle.clif_ir.specs.Body.{empty_function};
 ghost use Rattle.clif_records.specs.Tracking.{recorded_of};
 ghost use Rattle.clif_builder.specs.Builder.{answer_of, block_fault, first_fault};
-ghost use Rattle.clif_builder.specs.Context.{empty_context};
-ghost use Rattle.clif_builder.specs.Ending.{AnswersAfter, AsFound, BecomesSpilled, Ends, EndsByLedger, IsBeforeSpilling, TellsContext, recorded_in};
+ghost use Rattle.clif_builder.specs.Clear.{IsClear};
+ghost use Rattle.clif_builder.specs.Ending.{AnswersAfter, AsFound, BecomesFinished, Ends, EndsByLedger, IsBeforeSpilling, TellsContext, TellsSpilling, recorded_in};
 ghost use Rattle.clif_builder.specs.Ledger.{AgreesWithLedger, ledger_of};
 ghost use Rattle.clif_builder.specs.StandsFor.{StandsFor};
 ghost use Rattle.clif_builder.specs.Tracking.{RecordedFits};
 
 use crate::builder::FunctionBuilder;
-use crate::context::{BlockStatus, FunctionBuilderContext};
+use crate::context::{BlockStatus, ContextParts, FunctionBuilderContext};
 use crate::error::FinalizeError;
 use clif_finished_laws::{carrying_keeps_in_order, spilled_means_the_script};
 use clif_ir::Function;
+use clif_region_laws::alike_functions_mean_the_same;
 use clif_safepoints::contexts::tracked_context;
 use clif_types::{Block, EntityRef, EntitySet, TargetFrontendConfig, Type, Value};
 
@@ -37,6 +38,10 @@ impl<'a> FunctionBuilder<'a> {
     /// given, and loaded again where it is used. The stack map of each such call names the slots of those that live
     /// across it, by their numbers. Where nothing is recorded the function isn't changed here.
     ///
+    /// Then the callback of [`FunctionBuilder::make_stack_map_alias_region`], if there is one, is asked for the alias
+    /// region of each access that was inserted, in the order of insertion, which the access names then. The callback is
+    /// dropped in every case.
+    ///
     /// A finished function does what the calls said, with variables: its events, and how it returns or traps, are the
     /// same, although a collector moves references at each outside call and knows only what the stack maps name. The
     /// context is cleared in every case, and so serves for the next function.
@@ -45,8 +50,9 @@ impl<'a> FunctionBuilder<'a> {
     ///
     /// `Unsealed`, `Unfilled` or `TrackedContext`, as above, and `Failed` after an error of an earlier call: the
     /// function isn't changed then. Where values were recorded, `Memory`, where memory is refused, or `Full`, where a
-    /// table of the function has 2^32 - 1 entries: if values were being spilled then, the function is left empty, since
-    /// a part of the spills is of no use. The context is empty in every case.
+    /// table of the function has 2^32 - 1 entries, and what the set of regions refused to the callback: if values were
+    /// being spilled then, the function is left empty, since a part of the spills is of no use. The context is empty in
+    /// every case.
     pub fn finalize(self, config: TargetFrontendConfig) -> Result<(), FinalizeError>
         ensures answer { Ends self.entry result }
         ensures ledger { (calls : List AnsweredCall) → AgreesWithLedger calls self.entry
@@ -62,24 +68,28 @@ impl<'a> FunctionBuilder<'a> {
         ensures found { (signature : SignatureShape) (calls : List AnsweredCall)
             → StandsFor signature calls self.entry
             → OnOk result (AsFound signature config.pointer_width calls self.entry) }
-        ensures spilled { OnOk result (BecomesSpilled self.entry.func.now (recorded_in self.entry)
-            (pointer_type_of config.pointer_width) self.exit.0.now) }
+        ensures spilled { OnOk result (BecomesFinished self.entry.func.now (recorded_in self.entry)
+            (pointer_type_of config.pointer_width)
+            self.entry.ctx.now.region (λ c. post (c.ask.vtable, c.ask.value)) self.exit.0.now) }
         ensures function { (recorded_in self.entry ≡ []) ⊎ IsBeforeSpilling result
             → self.exit.0.now ≡ self.entry.func.now }
         ensures emptied { OnErr result
             ((self.exit.0.now ≡ self.entry.func.now) ⊎ (self.exit.0.now ≡ empty_function)) }
-        ensures context { self.exit.1.0.now ≡ empty_context }
+        ensures context { IsClear self.exit.1.0.now }
     {
         self.func.law_consistent();
         carrying_keeps_in_order();
         spilled_means_the_script();
+        alike_functions_mean_the_same();
         let verdict = self.verdict();
         // Named in this order: the context is given back cleared before the function, as the builder's invariant needs.
         let FunctionBuilder { ctx, func, .. } = self;
         let answer = finish(verdict, ctx, func, config.pointer_type());
         answer
     }
+}
 
+impl<'a, R> FunctionBuilder<'a, R> {
     // What of the parts isn't finished, or can't be spilled.
     fn verdict(&self) -> Result<(), FinalizeError>
         ensures { Ends self.now result }
@@ -87,14 +97,14 @@ impl<'a> FunctionBuilder<'a> {
         if self.failed {
             return Err(FinalizeError::Failed);
         }
-        check_blocks(self.ctx, self.func.block_count())?;
-        let ctx = &*self.ctx;
+        check_blocks(&self.ctx.parts, self.func.block_count())?;
+        let ctx = &self.ctx.parts;
         check_contexts(self.func, ctx.ssa.stack_map_values())
     }
 }
 
 // The first block, by number, in which something was made and that isn't sealed or isn't filled.
-fn check_blocks(ctx: &FunctionBuilderContext, count: usize) -> Result<(), FinalizeError>
+fn check_blocks(ctx: &ContextParts, count: usize) -> Result<(), FinalizeError>
     requires { count < 2 ^ 32 }
     ensures { result ≡ answer_of (first_fault ctx.now 0 count) }
 {
@@ -105,7 +115,7 @@ fn check_blocks(ctx: &FunctionBuilderContext, count: usize) -> Result<(), Finali
 }
 
 // What a block lacks.
-fn check_block(ctx: &FunctionBuilderContext, block: Block) -> Result<(), FinalizeError>
+fn check_block(ctx: &ContextParts, block: Block) -> Result<(), FinalizeError>
     ensures { result ≡ answer_of (block_fault ctx.now block) }
 {
     let status = ctx.status.get(block);
@@ -134,27 +144,45 @@ fn check_contexts(func: &Function, recorded: &EntitySet<Value>) -> Result<(), Fi
     }
 }
 
-// Spills what is recorded, unless the verdict refuses the function, and clears the context. Nothing is spilled where no value is recorded.
+// Unless the verdict refuses the function, spills what is recorded and asks for the regions of accesses; then it clears the context.
 fn finish(
     verdict: Result<(), FinalizeError>,
     ctx: &mut FunctionBuilderContext,
     func: &mut Function,
     pointer: Type,
 ) -> Result<(), FinalizeError>
-    requires { OnOk verdict (RecordedFits func.old (recorded_of ctx.old.ssa.tracking)) }
-    ensures answer { AnswersAfter verdict (recorded_of ctx.old.ssa.tracking) result }
-    ensures spilled { OnOk result
-        (BecomesSpilled func.old (recorded_of ctx.old.ssa.tracking) pointer func.new) }
-    ensures function { (recorded_of ctx.old.ssa.tracking ≡ []) ⊎ IsBeforeSpilling result
+    requires { OnOk verdict (RecordedFits func.old (recorded_of ctx.old.parts.ssa.tracking)) }
+    ensures answer { AnswersAfter verdict (recorded_of ctx.old.parts.ssa.tracking) result }
+    ensures spilled { OnOk result (BecomesFinished func.old (recorded_of ctx.old.parts.ssa.tracking)
+        pointer ctx.old.region (λ c. post (c.ask.vtable, c.ask.value)) func.new) }
+    ensures function { (recorded_of ctx.old.parts.ssa.tracking ≡ []) ⊎ IsBeforeSpilling result
         → func.new ≡ func.old }
     ensures emptied { OnErr result ((func.new ≡ func.old) ⊎ (func.new ≡ empty_function)) }
-    ensures context { ctx.new ≡ empty_context }
+    ensures context { IsClear ctx.new }
 {
-    let answer = if verdict.is_err() || ctx.ssa.stack_map_values().is_empty() {
-        verdict
-    } else {
-        ctx.spill(func, pointer)
+    let answer = match verdict {
+        Ok(()) => spill_recorded(ctx, func, pointer),
+        Err(lack) => Err(lack),
     };
     ctx.clear();
     answer
+}
+
+// Spills what is recorded, and asks for the regions of accesses. Nothing is done where no value is recorded.
+fn spill_recorded(
+    ctx: &mut FunctionBuilderContext,
+    func: &mut Function,
+    pointer: Type,
+) -> Result<(), FinalizeError>
+    requires { RecordedFits func.old (recorded_of ctx.old.parts.ssa.tracking) }
+    ensures answer { TellsSpilling (recorded_of ctx.old.parts.ssa.tracking) result }
+    ensures spilled { OnOk result (BecomesFinished func.old (recorded_of ctx.old.parts.ssa.tracking)
+        pointer ctx.old.region (λ c. post (c.ask.vtable, c.ask.value)) func.new) }
+    ensures function { recorded_of ctx.old.parts.ssa.tracking ≡ [] → func.new ≡ func.old }
+    ensures emptied { OnErr result (func.new ≡ empty_function) }
+{
+    if ctx.parts.ssa.stack_map_values().is_empty() {
+        return Ok(());
+    }
+    ctx.parts.spill(func, pointer, &ctx.region)
 }

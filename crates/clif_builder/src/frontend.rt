@@ -1,12 +1,13 @@
 //! The builder of a function.
-ghost use Rattle.std.specs.Prelude.{◌≡◌, ◌≢◌, ◌<◌, ◌-◌, ◌^◌, ◌+◌, ◌++◌, ◌∷◌, [], ◌==◌, ℕ, List, IsTrue, ◌↔◌, OnOk, OnErr, IfOk, IfSome, IsSome, is_err, Some, None, true, false, length, slice_index, slice_get, EachIndex, Contains};
-ghost use Rattle.clif_builder.specs.Context.{Begins, IsClear, IsFresh, SameVariables, SetsStatus, TouchesVariable, begun, status_of};
+ghost use Rattle.std.specs.Prelude.{◌≡◌, ◌≢◌, ◌<◌, ◌-◌, ◌^◌, ◌+◌, ◌++◌, ◌∷◌, [], ◌==◌, ℕ, List, IsTrue, ◌↔◌, option_map, OnOk, OnErr, IfOk, IfSome, IsSome, is_err, Some, None, true, false, length, slice_index, slice_get, EachIndex, Contains};
+ghost use Rattle.clif_builder.specs.Clear.{IsClear};
+ghost use Rattle.clif_builder.specs.Context.{Begins, IsFresh, SameVariables, SetsStatus, TouchesVariable, begun, status_of};
 ghost use Rattle.clif_builder.specs.Growth.{Grows, HasRecordIn, RemembersIn};
 ghost use Rattle.clif_builder.specs.Construction.{IsUse, IsSealing, IsSealingAll, SealsAtMost};
 ghost use Rattle.clif_builder.specs.Calls.{IsCall, IsTold, answered};
 ghost use Rattle.clif_builder.specs.Order.{IsUntouched};
 ghost use Rattle.clif_builder.specs.Tracking.{TracksBinding};
-ghost use Rattle.clif_builder.specs.Builder.{with_position, with_srcloc, is_unreachable, is_free, HasCurrent, Uses, UsesIn};
+ghost use Rattle.clif_builder.specs.Builder.{KeepsAllButRegion, with_position, with_srcloc, is_unreachable, is_free, HasCurrent, Uses, UsesIn};
 ghost use Rattle.clif_types.specs.Types.{is_type};
 ghost use Rattle.clif_ssa.specs.Pools.{types_of, MayPool, MayPoolAll, MayPoolWaiting, SealingIsFull, UseIsFull, WaitsWithType};
 ghost use Rattle.clif_ssa.specs.Structure.{LooksOnce};
@@ -26,8 +27,9 @@ ghost use Rattle.clif_builder.specs.StandsFor.{StandsFor};
 ghost use Rattle.clif_builder.specs.Ledger.{AgreesWithLedger, NamesBlock, NamesValue};
 
 use crate::builder::FunctionBuilder;
-use crate::context::{BlockStatus, FunctionBuilderContext};
+use crate::context::{BlockStatus, ContextParts, FunctionBuilderContext};
 use clif_ir::Function;
+use clif_regions::{Callback, RegionOf};
 use clif_ssa::Variable;
 use clif_types::{Block, BuildError, Inst, SourceLoc, Type, Value};
 
@@ -49,7 +51,7 @@ impl<'a> FunctionBuilder<'a> {
         ensures builder { (named : _) × (result ≡ record { func = func.entry; ctx = ctx.entry; position = None; srcloc = no_srcloc; failed = false; named = named }) }
         ensures ledger { AgreesWithLedger [] result }
         ensures stands { StandsFor func.old.signature [] result }
-        ensures looks_once { LooksOnce result.ctx.now.ssa }
+        ensures looks_once { LooksOnce result.ctx.now.parts.ssa }
     {
         FunctionBuilder {
             func,
@@ -60,6 +62,27 @@ impl<'a> FunctionBuilder<'a> {
         }
     }
 
+    /// Has `finalize` ask `ask` for the alias region of each access that it inserts for spilled values, in the order of
+    /// insertion: with the function's set of regions, to which `ask` may add, the type of what is stored or loaded, the
+    /// stack slot, and 0. The access names then the region that is returned, if one is.
+    ///
+    /// It replaces what an earlier call gave, and is dropped by [`FunctionBuilder::finalize`]; a builder that is dropped
+    /// without leaves it in the context. `ask` may be called with every argument. It takes no memory and can't fail.
+    pub fn make_stack_map_alias_region(&mut self, ask: RegionOf)
+        requires callable { RegionOf.IsAlwaysCallable ask }
+        ensures asks { option_map (λ c. c.ask) self.new.ctx.now.region ≡ Some ask }
+        ensures keeps { KeepsAllButRegion self.old self.new }
+        ensures ledger { (calls : List AnsweredCall) → AgreesWithLedger calls self.old → AgreesWithLedger calls self.new }
+        ensures stands { (signature : SignatureShape) (calls : List AnsweredCall)
+            → StandsFor signature calls self.old → StandsFor signature calls self.new }
+        ensures remembers { (x b : ℕ) → RemembersIn x b self.old self.new }
+        ensures current { HasCurrent self.old → HasCurrent self.new }
+    {
+        self.ctx.region = Some(Callback::new(ask));
+    }
+}
+
+impl<'a, R> FunctionBuilder<'a, R> {
     /// The function built so far, for reading. Nothing outside the builder writes it.
     pub fn func(&self) -> &Function
         ensures { result.now ≡ self.now.func.now }
@@ -83,34 +106,34 @@ impl<'a> FunctionBuilder<'a> {
 
     /// Whether a block is sealed: whether the builder was told that all of its predecessors are known.
     pub fn is_sealed(&self, block: Block) -> bool
-        ensures { result ≡ is_yes (sealed_of self.now.ctx.now.ssa block) }
+        ensures { result ≡ is_yes (sealed_of self.now.ctx.now.parts.ssa block) }
     {
-        let ctx = &*self.ctx;
+        let ctx = &self.ctx.parts;
         ctx.ssa.is_sealed(block)
     }
 
     /// Whether a block has its terminator. Nothing can be appended to it then.
     pub fn is_filled(&self, block: Block) -> bool
-        ensures { IsTrue result ↔ (status_of self.now.ctx.now block ≡ BlockStatus.Filled) }
+        ensures { IsTrue result ↔ (status_of self.now.ctx.now.parts block ≡ BlockStatus.Filled) }
     {
-        let ctx = &*self.ctx;
+        let ctx = &self.ctx.parts;
         ctx.status.get(block) == BlockStatus::Filled
     }
 
     /// Whether a block is pristine: no instruction was appended to it, no variable used in it, and
     /// [`FunctionBuilder::ensure_inserted_block`] wasn't called for it. Only a pristine block takes parameters.
     pub fn is_pristine(&self, block: Block) -> bool
-        ensures { IsTrue result ↔ (status_of self.now.ctx.now block ≡ BlockStatus.Empty) }
+        ensures { IsTrue result ↔ (status_of self.now.ctx.now.parts block ≡ BlockStatus.Empty) }
     {
-        let ctx = &*self.ctx;
+        let ctx = &self.ctx.parts;
         ctx.status.get(block) == BlockStatus::Empty
     }
 
     /// Whether a branch that was built so far leads to a block.
     pub fn has_any_predecessors(&self, block: Block) -> bool
-        ensures { IsTrue result ↔ (predecessors_of self.now.ctx.now.ssa block ≢ []) }
+        ensures { IsTrue result ↔ (predecessors_of self.now.ctx.now.parts.ssa block ≢ []) }
     {
-        let ctx = &*self.ctx;
+        let ctx = &self.ctx.parts;
         ctx.ssa.has_any_predecessors(block)
     }
 
@@ -121,7 +144,7 @@ impl<'a> FunctionBuilder<'a> {
     /// to be a current block ([`FunctionBuilder::current_block`]).
     pub fn is_unreachable(&self) -> bool
         requires { IsSome self.now.position }
-        ensures { IfSome self.now.position (λ block. result ≡ is_unreachable self.now.func.now self.now.ctx.now block) }
+        ensures { IfSome self.now.position (λ block. result ≡ is_unreachable self.now.func.now self.now.ctx.now.parts block) }
     {
         let Some(block) = self.position else {
             return false;
@@ -151,7 +174,7 @@ impl<'a> FunctionBuilder<'a> {
     /// which they were begun.
     pub fn switch_to_block(&mut self, block: Block)
         requires exists { block < length self.old.func.now.blocks }
-        requires unfilled { status_of self.old.ctx.now block ≢ BlockStatus.Filled }
+        requires unfilled { status_of self.old.ctx.now.parts block ≢ BlockStatus.Filled }
         requires free { IsTrue (is_free self.old) }
         ensures builder { self.new ≡ with_position self.old block }
         ensures ledger { (calls : List AnsweredCall) (name : Name) → AgreesWithLedger calls self.old → NamesBlock calls name block → AgreesWithLedger (calls ++ record { request = SwitchToBlock name; numbers = [] } ∷ []) self.new }
@@ -198,18 +221,18 @@ impl<'a> FunctionBuilder<'a> {
         ensures call { IsCall self.old self.new result }
         ensures function { OnOk result (self.new.func.now ≡ with_block self.old.func.now) }
         ensures number { IfOk result (λ b. b ≡ length self.old.func.now.blocks) }
-        ensures records { self.new.ctx.now.ssa.records ≡ self.old.ctx.now.ssa.records }
-        ensures sealed { SameBlocks self.old.ctx.now.ssa self.new.ctx.now.ssa }
-        ensures predecessors { SamePredecessors self.old.ctx.now.ssa self.new.ctx.now.ssa }
-        ensures tracking { self.new.ctx.now.ssa.tracking ≡ self.old.ctx.now.ssa.tracking }
-        ensures untouched { IfOk result (IsUntouched self.new.ctx.now) }
-        ensures status { self.new.ctx.now.status ≡ self.old.ctx.now.status }
-        ensures variables { self.new.ctx.now.variables ≡ self.old.ctx.now.variables }
+        ensures records { self.new.ctx.now.parts.ssa.records ≡ self.old.ctx.now.parts.ssa.records }
+        ensures sealed { SameBlocks self.old.ctx.now.parts.ssa self.new.ctx.now.parts.ssa }
+        ensures predecessors { SamePredecessors self.old.ctx.now.parts.ssa self.new.ctx.now.parts.ssa }
+        ensures tracking { self.new.ctx.now.parts.ssa.tracking ≡ self.old.ctx.now.parts.ssa.tracking }
+        ensures untouched { IfOk result (IsUntouched self.new.ctx.now.parts) }
+        ensures status { self.new.ctx.now.parts.status ≡ self.old.ctx.now.parts.status }
+        ensures variables { self.new.ctx.now.parts.variables ≡ self.old.ctx.now.parts.variables }
         ensures full { result ≡ Err BuildError.Full → length self.old.func.now.blocks ≡ 2 ^ 32 - 1 }
         ensures told { IsTold self.old self.new result
             (λ _. Unit {0})
             (λ block. answered CreateBlock (block ∷ [])) }
-        ensures known { IfOk result (λ b. b < length self.new.ctx.now.ssa.blocks) }
+        ensures known { IfOk result (λ b. b < length self.new.ctx.now.parts.ssa.blocks) }
         ensures exists { IfOk result (λ b. b < length self.new.func.now.blocks) }
         ensures grows { OnOk result (Grows self.old.func.now self.new.func.now) }
         ensures remembers { (x b : ℕ) → OnOk result (RemembersIn x b self.old self.new) }
@@ -218,7 +241,7 @@ impl<'a> FunctionBuilder<'a> {
         if self.failed {
             return Err(BuildError::Failed);
         }
-        let made = make_block(self.func, self.ctx);
+        let made = make_block(self.func, &mut self.ctx.parts);
         self.failed = made.is_err();
         made
     }
@@ -241,23 +264,23 @@ impl<'a> FunctionBuilder<'a> {
     /// parameters' arguments.
     pub fn seal_block(&mut self, block: Block) -> Result<(), BuildError>
         requires exists { block < length self.old.func.now.blocks }
-        requires unsealed { is_yes (sealed_of self.old.ctx.now.ssa block) ≡ false }
+        requires unsealed { is_yes (sealed_of self.old.ctx.now.parts.ssa block) ≡ false }
         ensures call { IsCall self.old self.new result }
-        ensures function { predecessors_of self.old.ctx.now.ssa block ≡ [] → OnOk result (self.new.func.now ≡ completed self.old.func.now (pending_of (sealed_of self.old.ctx.now.ssa block))) }
-        ensures is_sealing { OnOk result ((told : List ℕ) × IsSealing self.old.func.now self.old.ctx.now.ssa self.new.func.now self.new.ctx.now.ssa block told × Begins self.old.ctx.now self.new.ctx.now told) }
-        ensures sealed { predecessors_of self.old.ctx.now.ssa block ≡ [] → OnOk result (Seals self.old.ctx.now.ssa self.new.ctx.now.ssa block) }
-        ensures others { OnOk result (SealsAtMost self.old.ctx.now.ssa self.new.ctx.now.ssa block) }
-        ensures records { predecessors_of self.old.ctx.now.ssa block ≡ [] → SameRecords self.old.ctx.now.ssa self.new.ctx.now.ssa }
-        ensures stay { RecordsStay self.old.ctx.now.ssa self.new.ctx.now.ssa }
-        ensures variables { self.new.ctx.now.variables ≡ self.old.ctx.now.variables }
-        ensures pools { MayPoolAll (types_of self.old.func.now (pending_of (sealed_of self.old.ctx.now.ssa block))) self.old.func.now.tables self.new.func.now.tables }
-        ensures full { result ≡ Err BuildError.Full → SealingIsFull (Contains (types_of self.old.func.now (pending_of (sealed_of self.old.ctx.now.ssa block)))) self.new.func.now }
+        ensures function { predecessors_of self.old.ctx.now.parts.ssa block ≡ [] → OnOk result (self.new.func.now ≡ completed self.old.func.now (pending_of (sealed_of self.old.ctx.now.parts.ssa block))) }
+        ensures is_sealing { OnOk result ((told : List ℕ) × IsSealing self.old.func.now self.old.ctx.now.parts.ssa self.new.func.now self.new.ctx.now.parts.ssa block told × Begins self.old.ctx.now.parts self.new.ctx.now.parts told) }
+        ensures sealed { predecessors_of self.old.ctx.now.parts.ssa block ≡ [] → OnOk result (Seals self.old.ctx.now.parts.ssa self.new.ctx.now.parts.ssa block) }
+        ensures others { OnOk result (SealsAtMost self.old.ctx.now.parts.ssa self.new.ctx.now.parts.ssa block) }
+        ensures records { predecessors_of self.old.ctx.now.parts.ssa block ≡ [] → SameRecords self.old.ctx.now.parts.ssa self.new.ctx.now.parts.ssa }
+        ensures stay { RecordsStay self.old.ctx.now.parts.ssa self.new.ctx.now.parts.ssa }
+        ensures variables { self.new.ctx.now.parts.variables ≡ self.old.ctx.now.parts.variables }
+        ensures pools { MayPoolAll (types_of self.old.func.now (pending_of (sealed_of self.old.ctx.now.parts.ssa block))) self.old.func.now.tables self.new.func.now.tables }
+        ensures full { result ≡ Err BuildError.Full → SealingIsFull (Contains (types_of self.old.func.now (pending_of (sealed_of self.old.ctx.now.parts.ssa block)))) self.new.func.now }
         ensures constructs { OnlyConstructs self.old.func.now self.new.func.now }
         ensures told { (name : Name) → IsTold self.old self.new result
             (λ calls. NamesBlock calls name block)
             (λ _. answered (SealBlock name) []) }
-        ensures parameters { (signature : SignatureShape) (calls : List AnsweredCall) → StandsFor signature calls self.new → KeepsNoParameter calls self.new.func.now self.new.ctx.now.ssa }
-        ensures edges_match { (signature : SignatureShape) (calls : List AnsweredCall) → StandsFor signature calls self.new → NoneWaits self.new.ctx.now.ssa → CallersEdgesMatch (script_of calls) → EdgesMatch (view_of self.new.func.now) }
+        ensures parameters { (signature : SignatureShape) (calls : List AnsweredCall) → StandsFor signature calls self.new → KeepsNoParameter calls self.new.func.now self.new.ctx.now.parts.ssa }
+        ensures edges_match { (signature : SignatureShape) (calls : List AnsweredCall) → StandsFor signature calls self.new → NoneWaits self.new.ctx.now.parts.ssa → CallersEdgesMatch (script_of calls) → EdgesMatch (view_of self.new.func.now) }
         ensures grows { OnOk result (Grows self.old.func.now self.new.func.now) }
         ensures remembers { (x b : ℕ) → OnOk result (RemembersIn x b self.old self.new) }
         ensures current { HasCurrent self.old → OnOk result (HasCurrent self.new) }
@@ -266,7 +289,7 @@ impl<'a> FunctionBuilder<'a> {
             return Err(BuildError::Failed);
         }
         self.func.law_consistent();
-        let sealed = self.ctx.seal_block(block, self.func);
+        let sealed = self.ctx.parts.seal_block(block, self.func);
         self.func.law_consistent();
         self.failed = sealed.is_err();
         sealed
@@ -282,17 +305,17 @@ impl<'a> FunctionBuilder<'a> {
     /// Those of [`FunctionBuilder::seal_block`].
     pub fn seal_all_blocks(&mut self) -> Result<(), BuildError>
         ensures call { IsCall self.old self.new result }
-        ensures sealed { OnOk result ((b : ℕ) → b < length self.new.func.now.blocks → is_yes (sealed_of self.new.ctx.now.ssa b) ≡ true) }
-        ensures is_sealing { OnOk result ((told : List ℕ) × IsSealingAll self.old.func.now self.old.ctx.now.ssa self.new.func.now self.new.ctx.now.ssa told × Begins self.old.ctx.now self.new.ctx.now told) }
-        ensures stay { RecordsStay self.old.ctx.now.ssa self.new.ctx.now.ssa }
-        ensures variables { self.new.ctx.now.variables ≡ self.old.ctx.now.variables }
-        ensures pools { MayPoolWaiting self.old.func.now self.old.ctx.now.ssa self.new.func.now.tables }
-        ensures full { result ≡ Err BuildError.Full → SealingIsFull (WaitsWithType self.old.func.now self.old.ctx.now.ssa) self.new.func.now }
+        ensures sealed { OnOk result ((b : ℕ) → b < length self.new.func.now.blocks → is_yes (sealed_of self.new.ctx.now.parts.ssa b) ≡ true) }
+        ensures is_sealing { OnOk result ((told : List ℕ) × IsSealingAll self.old.func.now self.old.ctx.now.parts.ssa self.new.func.now self.new.ctx.now.parts.ssa told × Begins self.old.ctx.now.parts self.new.ctx.now.parts told) }
+        ensures stay { RecordsStay self.old.ctx.now.parts.ssa self.new.ctx.now.parts.ssa }
+        ensures variables { self.new.ctx.now.parts.variables ≡ self.old.ctx.now.parts.variables }
+        ensures pools { MayPoolWaiting self.old.func.now self.old.ctx.now.parts.ssa self.new.func.now.tables }
+        ensures full { result ≡ Err BuildError.Full → SealingIsFull (WaitsWithType self.old.func.now self.old.ctx.now.parts.ssa) self.new.func.now }
         ensures constructs { OnlyConstructs self.old.func.now self.new.func.now }
         ensures told { IsTold self.old self.new result
             (λ _. Unit {0})
             (λ _. answered SealAllBlocks []) }
-        ensures parameters { (signature : SignatureShape) (calls : List AnsweredCall) → StandsFor signature calls self.new → KeepsNoParameter calls self.new.func.now self.new.ctx.now.ssa }
+        ensures parameters { (signature : SignatureShape) (calls : List AnsweredCall) → StandsFor signature calls self.new → KeepsNoParameter calls self.new.func.now self.new.ctx.now.parts.ssa }
         ensures edges_match { (signature : SignatureShape) (calls : List AnsweredCall) → StandsFor signature calls self.new → CallersEdgesMatch (script_of calls) → OnOk result (EdgesMatch (view_of self.new.func.now)) }
         ensures grows { OnOk result (Grows self.old.func.now self.new.func.now) }
         ensures remembers { (x b : ℕ) → OnOk result (RemembersIn x b self.old self.new) }
@@ -302,7 +325,7 @@ impl<'a> FunctionBuilder<'a> {
             return Err(BuildError::Failed);
         }
         self.func.law_consistent();
-        let sealed = self.ctx.seal_all_blocks(self.func);
+        let sealed = self.ctx.parts.seal_all_blocks(self.func);
         self.func.law_consistent();
         self.failed = sealed.is_err();
         sealed
@@ -322,9 +345,9 @@ impl<'a> FunctionBuilder<'a> {
         requires { IsTrue (is_type ty) }
         ensures call { IsCall self.old self.new result }
         ensures function { self.new.func.now ≡ self.old.func.now }
-        ensures variables { OnOk result (self.new.ctx.now ≡ record self.old.ctx.now { variables = self.old.ctx.now.variables ++ ty ∷ [] }) }
-        ensures number { IfOk result (λ v. v ≡ length self.old.ctx.now.variables) }
-        ensures full { result ≡ Err BuildError.Full → length self.old.ctx.now.variables ≡ 2 ^ 32 - 1 }
+        ensures variables { OnOk result (self.new.ctx.now.parts ≡ record self.old.ctx.now.parts { variables = self.old.ctx.now.parts.variables ++ ty ∷ [] }) }
+        ensures number { IfOk result (λ v. v ≡ length self.old.ctx.now.parts.variables) }
+        ensures full { result ≡ Err BuildError.Full → length self.old.ctx.now.parts.variables ≡ 2 ^ 32 - 1 }
         ensures told { IsTold self.old self.new result
             (λ _. Unit {0})
             (λ variable. answered (DeclareVar ty) (variable ∷ [])) }
@@ -335,7 +358,7 @@ impl<'a> FunctionBuilder<'a> {
         if self.failed {
             return Err(BuildError::Failed);
         }
-        let declared = self.ctx.declare_var(ty);
+        let declared = self.ctx.parts.declare_var(ty);
         self.failed = declared.is_err();
         declared
     }
@@ -352,16 +375,16 @@ impl<'a> FunctionBuilder<'a> {
     /// then, and the builder has failed.
     pub fn def_var(&mut self, variable: Variable, value: Value) -> Result<(), BuildError>
         requires current { HasCurrent self.old }
-        requires declared { variable < length self.old.ctx.now.variables }
+        requires declared { variable < length self.old.ctx.now.parts.variables }
         requires value_exists { value < length self.old.func.now.values }
-        requires same_type { slice_get self.old.ctx.now.variables variable ≡ Some (value_at self.old.func.now value).ty }
+        requires same_type { slice_get self.old.ctx.now.parts.variables variable ≡ Some (value_at self.old.func.now value).ty }
         ensures call { IsCall self.old self.new result }
         ensures function { self.new.func.now ≡ self.old.func.now }
-        ensures records { IfSome self.old.position (λ block. OnOk result (Records self.old.ctx.now.ssa self.new.ctx.now.ssa variable block value)) }
-        ensures tracks { OnOk result (TracksBinding self.old.ctx.now self.new.ctx.now variable value) }
-        ensures sealed { self.new.ctx.now.ssa.blocks ≡ self.old.ctx.now.ssa.blocks }
-        ensures status { self.new.ctx.now.status ≡ self.old.ctx.now.status }
-        ensures variables { self.new.ctx.now.variables ≡ self.old.ctx.now.variables }
+        ensures records { IfSome self.old.position (λ block. OnOk result (Records self.old.ctx.now.parts.ssa self.new.ctx.now.parts.ssa variable block value)) }
+        ensures tracks { OnOk result (TracksBinding self.old.ctx.now.parts self.new.ctx.now.parts variable value) }
+        ensures sealed { self.new.ctx.now.parts.ssa.blocks ≡ self.old.ctx.now.parts.ssa.blocks }
+        ensures status { self.new.ctx.now.parts.status ≡ self.old.ctx.now.parts.status }
+        ensures variables { self.new.ctx.now.parts.variables ≡ self.old.ctx.now.parts.variables }
         ensures never_full { result ≢ Err BuildError.Full }
         ensures told { (name : Name) → IsTold self.old self.new result
             (λ calls. NamesValue calls name value)
@@ -377,7 +400,7 @@ impl<'a> FunctionBuilder<'a> {
             unreachable!();
         };
         self.func.law_consistent();
-        let recorded = self.ctx.def_var(variable, value, block);
+        let recorded = self.ctx.parts.def_var(variable, value, block);
         self.failed = recorded.is_err();
         recorded
     }
@@ -406,23 +429,23 @@ impl<'a> FunctionBuilder<'a> {
     /// `Failed` after an error of an earlier call. The builder has failed then.
     pub fn use_var(&mut self, variable: Variable) -> Result<Value, BuildError>
         requires current { HasCurrent self.old }
-        requires declared { variable < length self.old.ctx.now.variables }
+        requires declared { variable < length self.old.ctx.now.parts.variables }
         ensures call { IsCall self.old self.new result }
         ensures uses { IfSome self.old.position (λ block. IfOk result (Uses self.old self.new variable block)) }
         ensures typed { IfOk result (λ v.
-            slice_get self.old.ctx.now.variables variable ≡ Some (value_at self.new.func.now v).ty) }
-        ensures seals { OnOk result (SealedStays self.old.ctx.now.ssa self.new.ctx.now.ssa) }
-        ensures is_use { (ty : «Type») → slice_get self.old.ctx.now.variables variable ≡ Some ty → IfSome self.old.position (λ block. IfOk result (λ value. (told : List ℕ) × IsUse (inserted_in self.old.func.now block) self.old.ctx.now.ssa self.new.func.now self.new.ctx.now.ssa variable ty block value told × Begins self.old.ctx.now self.new.ctx.now (block ∷ told))) }
-        ensures status { (calls : List AnsweredCall) → AgreesWithLedger calls self.old → IfSome self.old.position (λ block. OnOk result (SetsStatus self.old.ctx.now self.new.ctx.now block (begun (status_of self.old.ctx.now block)))) }
-        ensures variables { self.new.ctx.now.variables ≡ self.old.ctx.now.variables }
-        ensures pools { (ty : «Type») → slice_get self.old.ctx.now.variables variable ≡ Some ty → MayPool ty self.old.func.now.tables self.new.func.now.tables }
-        ensures full { (ty : «Type») → slice_get self.old.ctx.now.variables variable ≡ Some ty → result ≡ Err BuildError.Full → UseIsFull ty self.new.func.now }
+            slice_get self.old.ctx.now.parts.variables variable ≡ Some (value_at self.new.func.now v).ty) }
+        ensures seals { OnOk result (SealedStays self.old.ctx.now.parts.ssa self.new.ctx.now.parts.ssa) }
+        ensures is_use { (ty : «Type») → slice_get self.old.ctx.now.parts.variables variable ≡ Some ty → IfSome self.old.position (λ block. IfOk result (λ value. (told : List ℕ) × IsUse (inserted_in self.old.func.now block) self.old.ctx.now.parts.ssa self.new.func.now self.new.ctx.now.parts.ssa variable ty block value told × Begins self.old.ctx.now.parts self.new.ctx.now.parts (block ∷ told))) }
+        ensures status { (calls : List AnsweredCall) → AgreesWithLedger calls self.old → IfSome self.old.position (λ block. OnOk result (SetsStatus self.old.ctx.now.parts self.new.ctx.now.parts block (begun (status_of self.old.ctx.now.parts block)))) }
+        ensures variables { self.new.ctx.now.parts.variables ≡ self.old.ctx.now.parts.variables }
+        ensures pools { (ty : «Type») → slice_get self.old.ctx.now.parts.variables variable ≡ Some ty → MayPool ty self.old.func.now.tables self.new.func.now.tables }
+        ensures full { (ty : «Type») → slice_get self.old.ctx.now.parts.variables variable ≡ Some ty → result ≡ Err BuildError.Full → UseIsFull ty self.new.func.now }
         ensures constructs { IfSome self.old.position (λ block. result ≡ Err BuildError.Full →
             OnlyConstructs (inserted_in self.old.func.now block) self.new.func.now) }
         ensures told { IsTold self.old self.new result
             (λ _. Unit {0})
             (λ value. answered (UseVar variable) (value ∷ [])) }
-        ensures parameters { (signature : SignatureShape) (calls : List AnsweredCall) → StandsFor signature calls self.new → KeepsNoParameter calls self.new.func.now self.new.ctx.now.ssa }
+        ensures parameters { (signature : SignatureShape) (calls : List AnsweredCall) → StandsFor signature calls self.new → KeepsNoParameter calls self.new.func.now self.new.ctx.now.parts.ssa }
         ensures exists { IfOk result (λ v. v < length self.new.func.now.values) }
         ensures grows { OnOk result (Grows self.old.func.now self.new.func.now) }
         ensures remembers { (x b : ℕ) → OnOk result (RemembersIn x b self.old self.new) }
@@ -435,11 +458,11 @@ impl<'a> FunctionBuilder<'a> {
         let Some(block) = self.position else {
             unreachable!();
         };
-        let Some(ty) = self.ctx.var_type(variable) else {
+        let Some(ty) = self.ctx.parts.var_type(variable) else {
             unreachable!();
         };
         self.func.law_consistent();
-        let used = use_variable(self.func, self.ctx, variable, ty, block);
+        let used = use_variable(self.func, &mut self.ctx.parts, variable, ty, block);
         self.func.law_consistent();
         self.failed = used.is_err();
         used
@@ -451,7 +474,7 @@ impl<'a> FunctionBuilder<'a> {
 #[inline(always)]
 pub(crate) fn begin_block(
     func: &mut Function,
-    ctx: &mut FunctionBuilderContext,
+    ctx: &mut ContextParts,
     block: Block,
 ) -> Result<(), BuildError>
     requires { block < length func.old.blocks }
@@ -473,7 +496,7 @@ pub(crate) fn begin_block(
 // The value of a variable of type `ty` in a block.
 fn use_variable(
     func: &mut Function,
-    ctx: &mut FunctionBuilderContext,
+    ctx: &mut ContextParts,
     variable: Variable,
     ty: Type,
     block: Block,
@@ -499,7 +522,7 @@ fn use_variable(
 
 #[tactic(auto, using(crate::proofs::Named::names_rules))]
 // Makes a block, and makes it known to the construction of SSA form.
-fn make_block(func: &mut Function, ctx: &mut FunctionBuilderContext) -> Result<Block, BuildError>
+fn make_block(func: &mut Function, ctx: &mut ContextParts) -> Result<Block, BuildError>
     ensures function { OnOk result (func.new ≡ with_block func.old) }
     ensures number { IfOk result (λ b. b ≡ length func.old.blocks) }
     ensures records { ctx.new.ssa.records ≡ ctx.old.ssa.records }

@@ -17,7 +17,7 @@ ghost use Rattle.clif_builder.specs.Entries.{MayServe, MayServeTry, PoolsConstan
 ghost use Rattle.std.proofs.lemmas.Option.{slice_get_within as pooled_below};
 
 use crate::builder::FunctionBuilder;
-use crate::context::{BlockStatus, FunctionBuilderContext};
+use crate::context::{BlockStatus, ContextParts};
 use crate::frontend::begin_block;
 use clif_inst_builder::{InstBuilderBase, both_values};
 use clif_instructions::insert_at::InsertAt;
@@ -57,7 +57,7 @@ impl<'a> FunctionBuilder<'a> {
     }
 }
 
-impl<'a> InstBuilderBase for FunctionBuilder<'a> {
+impl<'a, R> InstBuilderBase for FunctionBuilder<'a, R> {
     ghost can_build = { HasCurrent };
 
     ghost has_value = { λ b value. value < length b.func.now.values };
@@ -130,7 +130,7 @@ impl<'a> InstBuilderBase for FunctionBuilder<'a> {
     }
 
     fn allocator(&self) -> Global {
-        let ctx = &*self.ctx;
+        let ctx = &self.ctx.parts;
         ctx.alloc
     }
 
@@ -177,7 +177,14 @@ impl<'a> InstBuilderBase for FunctionBuilder<'a> {
             unreachable!();
         };
         self.func.law_consistent();
-        let built = append(self.func, self.ctx, block, shape, ctrl_type, self.srcloc);
+        let built = append(
+            self.func,
+            &mut self.ctx.parts,
+            block,
+            shape,
+            ctrl_type,
+            self.srcloc,
+        );
         self.failed = built.is_err();
         built
     }
@@ -220,7 +227,7 @@ impl<'a> InstBuilderBase for FunctionBuilder<'a> {
 #[inline(always)]
 fn append(
     func: &mut Function,
-    ctx: &mut FunctionBuilderContext,
+    ctx: &mut ContextParts,
     block: Block,
     shape: InstructionData,
     ctrl_type: Type,

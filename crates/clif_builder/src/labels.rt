@@ -6,7 +6,7 @@ use crate::builder::FunctionBuilder;
 use clif_ir::ValueLabelStart;
 use clif_types::{BuildError, Value, ValueLabel};
 
-impl<'a> FunctionBuilder<'a> {
+impl<'a, R> FunctionBuilder<'a, R> {
     /// Has the function keep the labels that values are given from now on ([`FunctionBuilder::set_val_label`]). Without
     /// this call none is kept. It takes no memory and can't fail.
     pub fn collect_debug_info(&mut self)

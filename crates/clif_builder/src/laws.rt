@@ -7,8 +7,8 @@ ghost use Rattle.clif_builder.specs.LeadsLaw.{LeadsAreReadByNumber};
 ghost use Rattle.clif_builder.specs.LedgerLaws.{LedgerIsReadByNumber, NotesAddNothing, RequestsAskForTheirShapes, TableCallsAddNothing};
 
 /// Two uses of a variable in a block stand for one value, where no call between them assigns it there.
-pub fn uses_agree()
-    ensures { BuilderUsesAgree }
+pub fn uses_agree<R>()
+    ensures { BuilderUsesAgree R }
 {}
 
 /// Once no parameter waits, the edges of the function of a builder that stands for a list of calls match, where the

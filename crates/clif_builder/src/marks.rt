@@ -12,23 +12,23 @@ use crate::builder::FunctionBuilder;
 use clif_ssa::Variable;
 use clif_types::{BuildError, Value};
 
-impl<'a> FunctionBuilder<'a> {
+impl<'a, R> FunctionBuilder<'a, R> {
     /// Whether a variable is declared, and was neither used nor assigned so far, so that it may be marked
     /// ([`FunctionBuilder::declare_var_needs_stack_map`]).
     ///
     /// An assignment that [`FunctionBuilder::try_def_var`] refuses is none. After an error of an earlier call the answer is
     /// false. It takes no memory.
     pub fn is_untouched(&self, variable: Variable) -> bool
-        ensures exact { self.now.failed ≡ false → result ≡ is_untouched self.now.ctx.now variable }
+        ensures exact { self.now.failed ≡ false → result ≡ is_untouched self.now.ctx.now.parts variable }
         ensures failed { IsTrue self.now.failed → result ≡ false }
-        ensures unused { IsTrue result → IsUnused self.now.ctx.now variable }
+        ensures unused { IsTrue result → IsUnused self.now.ctx.now.parts variable }
         ensures ledger { (calls : List AnsweredCall) → AgreesWithLedger calls self.now
             → self.now.failed ≡ false → result ≡ never_touched (ledger_of calls) variable }
     {
         if self.failed {
             return false;
         }
-        self.ctx.is_untouched(variable)
+        self.ctx.parts.is_untouched(variable)
     }
 
     /// Has stack maps name each value that a variable gets: those that are assigned to it, and the block parameters
@@ -43,15 +43,15 @@ impl<'a> FunctionBuilder<'a> {
     /// `Memory`, where memory is refused, and `Failed` after an error of an earlier call. Nothing else has changed
     /// then, and the builder has failed.
     pub fn declare_var_needs_stack_map(&mut self, variable: Variable) -> Result<(), BuildError>
-        requires fits { VariableFits self.old.ctx.now variable }
-        requires unused { IsUnused self.old.ctx.now variable }
+        requires fits { VariableFits self.old.ctx.now.parts variable }
+        requires unused { IsUnused self.old.ctx.now.parts variable }
         ensures marks { MarksVariable self.old self.new result variable }
         ensures told { IsTold self.old self.new result (λ calls. Unit {0}) (λ u. answered (NeedStackMap (OfVariable variable)) []) }
     {
         if self.failed {
             return Err(BuildError::Failed);
         }
-        let marked = self.ctx.mark_var(variable);
+        let marked = self.ctx.parts.mark_var(variable);
         self.failed = marked.is_err();
         marked
     }
@@ -71,7 +71,7 @@ impl<'a> FunctionBuilder<'a> {
         if self.failed {
             return Err(BuildError::Failed);
         }
-        let recorded = self.ctx.record_value(value);
+        let recorded = self.ctx.parts.record_value(value);
         self.failed = recorded.is_err();
         recorded
     }

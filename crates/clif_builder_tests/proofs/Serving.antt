@@ -12,7 +12,7 @@ use Rattle.clif_builder.specs.Builder.{CanLead}
 use Rattle.clif_builder.specs.Entries.{MayServe, MayServeTry, table_held}
 use Rattle.clif_builder_tests.specs.RowTables.{bare_table, catching_table, entries_passing}
 
-pub branch_serves : (b : FunctionBuilder) (table value : ℕ)
+pub branch_serves : {R : Type 0} (b : FunctionBuilder R) (table value : ℕ)
     → table_held jump_tables b table ≡ Some (entries_passing value)
     → CanLead b (edge_to 1 (arg.Value value ∷ [])) → CanLead b (edge_to 2 [])
     → MayServe b table
@@ -24,7 +24,7 @@ branch_serves b table value held passing plain =
     let edges : All (CanLead b) (entries_passing value) = All-cons (CanLead b) (edge_to 2 []) entries plain both in
     (entries_passing value, held, edges)
 
-pub catching_serves : (b : FunctionBuilder) (table sig : ℕ)
+pub catching_serves : {R : Type 0} (b : FunctionBuilder R) (table sig : ℕ)
     → table_held exception_tables b table ≡ Some (catching_table sig)
     → sig < length b.func.now.tables.signatures
     → CanLead b (edge_to 1 (arg.TryCallRet 0 ∷ [])) → CanLead b (edge_to 3 (arg.TryCallExn 1 ∷ []))
@@ -36,7 +36,7 @@ catching_serves b table sig held signature returned thrown =
     All-cons (CanLead b) (edge_to 1 (arg.TryCallRet 0 ∷ [])) caught returned rest in
     (catching_table sig, held, (edges, All-nil (ValueExists b.func.now), signature))
 
-pub bare_serves : (b : FunctionBuilder) (table sig : ℕ)
+pub bare_serves : {R : Type 0} (b : FunctionBuilder R) (table sig : ℕ)
     → table_held exception_tables b table ≡ Some (bare_table sig)
     → sig < length b.func.now.tables.signatures → CanLead b (edge_to 1 (arg.TryCallRet 0 ∷ []))
     → MayServeTry b table

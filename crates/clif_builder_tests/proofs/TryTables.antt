@@ -14,7 +14,7 @@ use Rattle.clif_builder.specs.Builder.{CanLead}
 use Rattle.clif_builder.specs.Entries.{MayServeTry, table_held}
 use Rattle.clif_builder_tests.specs.TryTables.{passing_table, tagged_table}
 
-pub serves : (b : FunctionBuilder) (table sig context : ℕ)
+pub serves : {R : Type 0} (b : FunctionBuilder R) (table sig context : ℕ)
     → table_held exception_tables b table ≡ Some (tagged_table sig context)
     → sig < length b.func.now.tables.signatures → context < length b.func.now.values
     → CanLead b (edge_to 2 (arg.TryCallRet 0 ∷ [])) → CanLead b (edge_to 3 (arg.TryCallExn 0 ∷ [])) → CanLead b (edge_to 4 [])
@@ -30,7 +30,7 @@ serves b table sig context held signature named returned tagged other =
     All-cons (ValueExists b.func.now) context [] named (All-nil (ValueExists b.func.now)) in
     (tagged_table sig context, held, (edges, contexts, signature))
 
-pub passing_serves : (b : FunctionBuilder) (table sig value : ℕ) (thrown : List BlockArg)
+pub passing_serves : {R : Type 0} (b : FunctionBuilder R) (table sig value : ℕ) (thrown : List BlockArg)
     → table_held exception_tables b table ≡ Some (passing_table sig value thrown)
     → sig < length b.func.now.tables.signatures
     → CanLead b (edge_to 1 (arg.Value value ∷ arg.TryCallRet 0 ∷ [])) → CanLead b (edge_to 2 thrown)

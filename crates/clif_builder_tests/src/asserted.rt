@@ -26,7 +26,7 @@ pub fn asserts_block(rt: &impl Abort, builder: &FunctionBuilder<'_>, block: Bloc
 
 /// Asserts that a block isn't sealed.
 pub fn asserts_unsealed(rt: &impl Abort, builder: &FunctionBuilder<'_>, block: Block)
-    ensures { is_yes (sealed_of builder.now.ctx.now.ssa block) ≡ false }
+    ensures { is_yes (sealed_of builder.now.ctx.now.parts.ssa block) ≡ false }
 {
     assert!(rt; !builder.is_sealed(block));
 }
@@ -34,7 +34,7 @@ pub fn asserts_unsealed(rt: &impl Abort, builder: &FunctionBuilder<'_>, block: B
 /// Asserts that a branch may lead to a block: it exists and isn't sealed.
 pub fn asserts_target(rt: &impl Abort, builder: &FunctionBuilder<'_>, block: Block)
     ensures exists { block < length builder.now.func.now.blocks }
-    ensures unsealed { is_yes (sealed_of builder.now.ctx.now.ssa block) ≡ false }
+    ensures unsealed { is_yes (sealed_of builder.now.ctx.now.parts.ssa block) ≡ false }
 {
     asserts_block(rt, builder, block);
     asserts_unsealed(rt, builder, block);

@@ -73,14 +73,14 @@ named_last calls arithmetic ty answer operands inst value gives =
 -- STEPS -------------------------------------------------------------------------------------------------------------------
 
 -- one call
-pub stands_on : (signature : SignatureShape) (calls : List AnsweredCall) (old new : FunctionBuilder) (shape : InstructionData) (ty : «Type») (value : ℕ) (request : Request)
+pub stands_on : {R : Type 0} (signature : SignatureShape) (calls : List AnsweredCall) (old new : FunctionBuilder R) (shape : InstructionData) (ty : «Type») (value : ℕ) (request : Request)
     → StandsFor signature calls old → BuildsValue old new shape ty (Ok value) → AsksForShape calls old.func.now request shape ty
     → StandsFor signature (calls ++ answered request (numbers_with old value) ∷ []) new
 stands_on signature calls old new shape ty value request stands builds (entries, instruction, is, has) =
     subst (λ (r : Request). StandsFor signature (calls ++ answered r (numbers_with old value) ∷ []) new) (sym is) (builds.stands signature calls entries instruction stands has)
 
 -- the list has the calls of a constant at its end, which has this name and this number, and a name still names its value
-record HasConstant (signature : SignatureShape) (calls : List AnsweredCall) (plain : Script) (name : Name) (x : ℕ) (made : Name) (between : FunctionBuilder) (constant : ℕ) (ty : «Type») : Type 0 where
+record HasConstant {R : Type 0} (signature : SignatureShape) (calls : List AnsweredCall) (plain : Script) (name : Name) (x : ℕ) (made : Name) (between : FunctionBuilder R) (constant : ℕ) (ty : «Type») : Type 0 where
   added : List AnsweredCall
   asked : script_of added ≡ plain
   stands : StandsFor signature (calls ++ added) between
@@ -89,25 +89,25 @@ record HasConstant (signature : SignatureShape) (calls : List AnsweredCall) (pla
   typed : or_invalid (type_of (ledger_of (calls ++ added)) name) ≡ ty
 
 module _ (reads : LedgerIsReadByNumber) (asks : RequestsAskForTheirShapes) where
-  pub asks_at : (signature : SignatureShape) (calls : List AnsweredCall) (b : FunctionBuilder) → StandsFor signature calls b → AskForTheirShapes calls b.func.now
-  asks_at signature calls b stands = asks calls b.func.now b.ctx.now b.position stands.ledger
+  pub asks_at : {R : Type 0} (signature : SignatureShape) (calls : List AnsweredCall) (b : FunctionBuilder R) → StandsFor signature calls b → AskForTheirShapes calls b.func.now
+  asks_at signature calls b stands = asks calls b.func.now b.ctx.now.parts b.position stands.ledger
 
-  pub type_at : (signature : SignatureShape) (calls : List AnsweredCall) (b : FunctionBuilder) (name : Name) (x : ℕ) → StandsFor signature calls b → NamesValue calls name x
+  pub type_at : {R : Type 0} (signature : SignatureShape) (calls : List AnsweredCall) (b : FunctionBuilder R) (name : Name) (x : ℕ) → StandsFor signature calls b → NamesValue calls name x
       → or_invalid (type_of (ledger_of calls) name) ≡ type_in b x
   type_at signature calls b name x stands names =
-      let read = (reads calls b.func.now b.ctx.now b.position stands.ledger).value name x names in
+      let read = (reads calls b.func.now b.ctx.now.parts b.position stands.ledger).value name x names in
       ap or_invalid read.1 ∙ node_type b.func.now x read.0 read.2
 
   type_on : (calls : List AnsweredCall) (call : AnsweredCall) (name : Name) (x : ℕ) → NamesValue calls name x
       → or_invalid (type_of (ledger_of (calls ++ call ∷ [])) name) ≡ or_invalid (type_of (ledger_of calls) name)
   type_on calls call name x names = ap or_invalid (type_stays calls call name (value_earlier calls name names.is_value))
 
-  module _ (signature : SignatureShape) (calls : List AnsweredCall) (old : FunctionBuilder) (name : Name) (x : ℕ) (imm : ℤ) (stands : StandsFor signature calls old) (names : NamesValue calls name x) where
+  module _ {R : Type 0} (signature : SignatureShape) (calls : List AnsweredCall) (old : FunctionBuilder R) (name : Name) (x : ℕ) (imm : ℤ) (stands : StandsFor signature calls old) (names : NamesValue calls name x) where
     abbrev n : ℕ
     n = length calls
 
     -- a constant of one instruction
-    once : (between : FunctionBuilder) (ty : «Type») (constant : ℕ) → ty ≡ type_in old x → BuildsValue old between (shapes.unary_imm imm) ty (Ok constant)
+    once : (between : FunctionBuilder R) (ty : «Type») (constant : ℕ) → ty ≡ type_in old x → BuildsValue old between (shapes.unary_imm imm) ty (Ok constant)
         → HasConstant signature calls (building (computing (Iconst imm) ty []) ∷ []) name x (answer_of n 1) between constant ty
     once between ty constant same builds =
         let call : AnsweredCall = answered (building (computing (Iconst imm) ty [])) (numbers_with old constant) in
@@ -121,7 +121,7 @@ module _ (reads : LedgerIsReadByNumber) (asks : RequestsAskForTheirShapes) where
         }
 
     -- a constant of two instructions
-    twice : (first between : FunctionBuilder) (ty : «Type») (narrow constant : ℕ) → ty ≡ type_in old x
+    twice : (first between : FunctionBuilder R) (ty : «Type») (narrow constant : ℕ) → ty ≡ type_in old x
         → BuildsValue old first (shapes.unary_imm imm) i64 (Ok narrow) → BuildsValue first between (shapes.convert Sextend narrow) ty (Ok constant)
         → HasConstant signature calls (building (computing (Iconst imm) i64 []) ∷ building (computing (Convert Sextend) ty (answer_of n 1 ∷ [])) ∷ []) name x (answer_of (suc n) 1) between constant ty
     twice first between ty narrow constant same builds widens =
@@ -150,9 +150,9 @@ module _ (reads : LedgerIsReadByNumber) (asks : RequestsAskForTheirShapes) where
     -- the instruction behind it
     module _ (arithmetic : Arithmetic) (shape : ℕ → ℕ → InstructionData) (answer_type : «Type» → «Type»)
         (gives : (ty : «Type») (operands : List Name) → emitted_types (computing arithmetic ty operands) ≡ answer_type ty ∷ [])
-        (asks_last : (list : List AnsweredCall) (b : FunctionBuilder) (a c : Name) (y z : ℕ) → AskForTheirShapes list b.func.now → NamesValue list a y → NamesValue list c z
+        (asks_last : (list : List AnsweredCall) (b : FunctionBuilder R) (a c : Name) (y z : ℕ) → AskForTheirShapes list b.func.now → NamesValue list a y → NamesValue list c z
         → AsksForShape list b.func.now (building (computing arithmetic (or_invalid (type_of (ledger_of list) a)) (a ∷ c ∷ []))) (shape y z) (type_in b y)) where
-      behind : (between new : FunctionBuilder) (plain : Script) (made : Name) (constant value : ℕ) (ty : «Type») (place : ℕ) → place ≡ length plain + n
+      behind : (between new : FunctionBuilder R) (plain : Script) (made : Name) (constant value : ℕ) (ty : «Type») (place : ℕ) → place ≡ length plain + n
           → HasConstant signature calls plain name x made between constant ty → BuildsLike between new (shape x constant) x (Ok value)
           → StandsWith signature calls (plain ++ building (computing arithmetic ty (name ∷ made ∷ [])) ∷ []) (answer_of place 1) new value
       behind between new plain made constant value ty place is has builds =
@@ -217,10 +217,10 @@ module _ (reads : LedgerIsReadByNumber) (asks : RequestsAskForTheirShapes) where
       wide_calls type.Invalid is = cc
       wide_calls (type.Vector l k) is = cc
 
-      abbrev IsDone : «Type» → FunctionBuilder → ℕ → Type 0
+      abbrev IsDone : «Type» → FunctionBuilder R → ℕ → Type 0
       IsDone ty new value = StandsWith signature calls (constant_calls arithmetic ty imm n name) (answer_of (place_behind ty n) 1) new value
 
-      wide_done : (first between new : FunctionBuilder) (narrow constant value : ℕ) (ty : «Type») → ty ≡ type_in old x → is_wide ty ≡ true
+      wide_done : (first between new : FunctionBuilder R) (narrow constant value : ℕ) (ty : «Type») → ty ≡ type_in old x → is_wide ty ≡ true
           → BuildsValue old first (shapes.unary_imm imm) i64 (Ok narrow) → BuildsValue first between (shapes.convert Sextend narrow) ty (Ok constant)
           → BuildsLike between new (shape x constant) x (Ok value) → IsDone ty new value
       wide_done first between new narrow constant value ty same wide builds widens last =
@@ -228,7 +228,7 @@ module _ (reads : LedgerIsReadByNumber) (asks : RequestsAskForTheirShapes) where
           subst (λ (plain : Script). StandsWith signature calls plain (answer_of (place_behind ty n) 1) new value) (sym is.0)
           (behind between new _ (answer_of (suc n) 1) constant value ty (place_behind ty n) (is.1 ∙ plus_two n) (twice first between ty narrow constant same builds widens) last)
 
-      narrow_done : (between new : FunctionBuilder) (constant value : ℕ) (ty : «Type») → ty ≡ type_in old x → is_wide ty ≡ false
+      narrow_done : (between new : FunctionBuilder R) (constant value : ℕ) (ty : «Type») → ty ≡ type_in old x → is_wide ty ≡ false
           → BuildsValue old between (shapes.unary_imm imm) ty (Ok constant) → BuildsLike between new (shape x constant) x (Ok value) → IsDone ty new value
       narrow_done between new constant value ty same narrow builds last =
           let is = narrow_calls ty narrow in
@@ -239,21 +239,21 @@ module _ (reads : LedgerIsReadByNumber) (asks : RequestsAskForTheirShapes) where
       no_success : {P : Type 0} (value : ℕ) (error : BuildError) → Ok value ≡ Err error → P
       no_success value error same = cc
 
-      done : (between new : FunctionBuilder) (constant value : ℕ) (ty : «Type») → ty ≡ type_in old x
+      done : (between new : FunctionBuilder R) (constant value : ℕ) (ty : «Type») → ty ≡ type_in old x
           → BuildsConstant BuildsValue ty imm old between (Ok constant) → BuildsLike between new (shape x constant) x (Ok value) → IsDone ty new value
       done between new constant value ty same (inl (wide, inl (first, narrow, builds, widens))) last =
           wide_done first between new narrow constant value ty same wide builds widens last
       done between new constant value ty same (inl (wide, inr (error, failed, is))) last = no_success constant error is
       done between new constant value ty same (inr (narrow, builds)) last = narrow_done between new constant value ty same narrow builds last
 
-      all : (new : FunctionBuilder) (answer : Result ℕ BuildError) → BuildsWithConstant BuildsValue BuildsLike (shape x) (type_in old x) imm x old new answer
+      all : (new : FunctionBuilder R) (answer : Result ℕ BuildError) → BuildsWithConstant BuildsValue BuildsLike (shape x) (type_in old x) imm x old new answer
           → IfOk answer (IsDone (type_in old x) new)
       all new (Err error) builds = tt
       all new (Ok value) (inl (between, constant, made, last)) = done between new constant value (type_in old x) refl made last
       all new (Ok value) (inr (error, failed, is)) = no_success value error is
 
-  pub stand : ConstantOperandsStand
-  stand = record {
+  pub stand : (R : Type 0) → ConstantOperandsStand R
+  stand R = record {
     adds = λ signature calls old new name x imm answer stands names builds.
         all signature calls old name x imm stands names (Binary Iadd) (λ y z. shapes.binary Iadd y z) (λ ty. ty) (λ ty operands. refl)
         (λ list b a c y z asked one two. asked.binary Iadd a c y z one two) new answer builds;

@@ -21,29 +21,29 @@ use Rattle.clif_expansion.specs.ConstantCalls.{constant_calls}
 use Rattle.clif_expansion.specs.Constants.{place_behind}
 
 -- The builder stands for the list with these plain calls at its end, answered in some way, and this names the value.
-pub record StandsWith (signature : SignatureShape) (calls : List AnsweredCall) (plain : Script) (name : Name) (new : FunctionBuilder) (value : ℕ) : Type 0 where
+pub record StandsWith {R : Type 0} (signature : SignatureShape) (calls : List AnsweredCall) (plain : Script) (name : Name) (new : FunctionBuilder R) (value : ℕ) : Type 0 where
   pub added : List AnsweredCall
   pub asked : script_of added ≡ plain
   pub stands : StandsFor signature (calls ++ added) new
   pub named : NamesValue (calls ++ added) name value
 
 -- the type of a value of the builder's function
-abbrev pub type_in : FunctionBuilder → ℕ → «Type»
+abbrev pub type_in : {R : Type 0} → FunctionBuilder R → ℕ → «Type»
 type_in b x = (value_at b.func.now x).ty
 
 -- what a builder makes of an instruction at the type of a value
-abbrev pub BuildsLike : (old new : FunctionBuilder) → InstructionData → (like : ℕ) → Result ℕ BuildError → Type 0
+abbrev pub BuildsLike : {R : Type 0} (old new : FunctionBuilder R) → InstructionData → (like : ℕ) → Result ℕ BuildError → Type 0
 BuildsLike old new shape like answer = BuildsValue old new shape (type_in old like) answer
 
 -- Behind the constant and the instruction of this shape a builder stands for the list with the calls of the arithmetic at its end.
-abbrev pub StandsBehind : Arithmetic → (shape : ℕ → ℕ → InstructionData) → Type 0
-StandsBehind arithmetic shape =
-    (signature : SignatureShape) (calls : List AnsweredCall) (old new : FunctionBuilder) (name : Name) (x : ℕ) (imm : ℤ) (answer : Result ℕ BuildError)
+abbrev pub StandsBehind : (R : Type 0) → Arithmetic → (shape : ℕ → ℕ → InstructionData) → Type 0
+StandsBehind R arithmetic shape =
+    (signature : SignatureShape) (calls : List AnsweredCall) (old new : FunctionBuilder R) (name : Name) (x : ℕ) (imm : ℤ) (answer : Result ℕ BuildError)
     → StandsFor signature calls old → NamesValue calls name x
     → BuildsWithConstant BuildsValue BuildsLike (shape x) (type_in old x) imm x old new answer
     → IfOk answer (StandsWith signature calls (constant_calls arithmetic (type_in old x) imm (length calls) name)
     (answer_of (place_behind (type_in old x) (length calls)) 1) new)
 
-pub record ConstantOperandsStand : Type 0 where
-  pub adds : StandsBehind (Binary Iadd) (λ x constant. binary Iadd x constant)
-  pub compares : (condition : IntCC) → StandsBehind (Compare condition) (λ x constant. int_compare condition x constant)
+pub record ConstantOperandsStand (R : Type 0) : Type 0 where
+  pub adds : StandsBehind R (Binary Iadd) (λ x constant. binary Iadd x constant)
+  pub compares : (condition : IntCC) → StandsBehind R (Compare condition) (λ x constant. int_compare condition x constant)

@@ -6,8 +6,8 @@ use clif_builder::laws::{ledger_is_read_by_number, requests_ask_for_their_shapes
 
 /// Behind a sum with a constant, or a comparison with one, a builder that stood for a list of calls stands for the list with the
 /// plain calls at its end, and what was answered is the last one's result.
-pub fn constant_operands_stand()
-    ensures { ConstantOperandsStand }
+pub fn constant_operands_stand<R>()
+    ensures { ConstantOperandsStand R }
 {
     ledger_is_read_by_number();
     requests_ask_for_their_shapes();

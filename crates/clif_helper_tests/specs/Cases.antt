@@ -6,9 +6,5 @@ use Rattle.clif_builder.specs.declared.builder.FunctionBuilder.{FunctionBuilder}
 use Rattle.clif_switch.specs.Emission.{MayLead}
 
 -- a branch may lead to the block of each case
-abbrev pub AllLead : CaseMap → FunctionBuilder → Type 0
+abbrev pub AllLead : {R : Type 0} → CaseMap → FunctionBuilder R → Type 0
 AllLead cases b = (key block : ℕ) → map.get cases key ≡ Some block → MayLead b block
-
--- in each builder a branch may lead to the block of each case, as where there is no case
-abbrev pub AllLeadAnywhere : CaseMap → Type 0
-AllLeadAnywhere cases = (b : FunctionBuilder) → AllLead cases b

@@ -66,7 +66,7 @@ asked_both one two = map-append (λ (call : AnsweredCall). call.request) one two
 
 -- NAMES -------------------------------------------------------------------------------------------------------------------
 
-pub zip_stays : (reads : LedgerIsReadByNumber) (signature : SignatureShape) (calls added : List AnsweredCall) (old new : FunctionBuilder) (names : List Name) (values : List ℕ)
+pub zip_stays : {R : Type 0} (reads : LedgerIsReadByNumber) (signature : SignatureShape) (calls added : List AnsweredCall) (old new : FunctionBuilder R) (names : List Name) (values : List ℕ)
     → StandsFor signature calls old → StandsFor signature (calls ++ added) new → AllZip (NamesValue calls) names values → AllZip (NamesValue (calls ++ added)) names values
 zip_stays reads signature calls added old new [] [] before after named = tt
 zip_stays reads signature calls added old new [] (v ∷ values) before after named = absurd named
@@ -87,8 +87,8 @@ named_last calls request ty inst value numbers gives =
 -- ONE BEHIND THE OTHER ----------------------------------------------------------------------------------------------------
 
 -- calls behind calls, with what the later ones answer, or with what all answer
-module _ (signature : SignatureShape) (calls : List AnsweredCall) (plain : Script) (names : List Name) (values : List ℕ) (mid : FunctionBuilder) (one : StandsOn signature calls plain names values mid)
-    (q : ℕ → Script) (h : ℕ → List Name) (later : List ℕ) (new : FunctionBuilder)
+module _ {R : Type 0} (signature : SignatureShape) (calls : List AnsweredCall) (plain : Script) (names : List Name) (values : List ℕ) (mid : FunctionBuilder R) (one : StandsOn signature calls plain names values mid)
+    (q : ℕ → Script) (h : ℕ → List Name) (later : List ℕ) (new : FunctionBuilder R)
     (two : StandsOn signature (calls ++ one.added) (q (length (calls ++ one.added))) (h (length (calls ++ one.added))) later new) where
   abbrev joined : (calls ++ one.added) ++ two.added ≡ calls ++ (one.added ++ two.added)
   joined = append_assoc calls one.added two.added
@@ -123,7 +123,7 @@ module _ (signature : SignatureShape) (calls : List AnsweredCall) (plain : Scrip
         named_later;
   }
 
-module _ {A B : Type 0} (reads : LedgerIsReadByNumber) (old mid new : FunctionBuilder) (operands : List ℕ) (p : Requests) (g : Results) (values : A → List ℕ) (a : A)
+module _ {A B : Type 0} {R : Type 0} (reads : LedgerIsReadByNumber) (old mid new : FunctionBuilder R) (operands : List ℕ) (p : Requests) (g : Results) (values : A → List ℕ) (a : A)
     (first : Makes operands p g values old mid (Ok a)) (q : Requests) (h : Results) (later : B → List ℕ) where
   -- calls on what was answered and on the operands, behind those that answered it
   pub makes_then : (answer : Result B BuildError) → Makes (values a ++ operands) q h later mid new answer
@@ -159,7 +159,7 @@ module _ {A B : Type 0} (reads : LedgerIsReadByNumber) (old mid new : FunctionBu
         (on_push signature calls (p (length calls) names) (g (length calls) names) (values a) mid one (λ place. q place names) (λ place. h place names) (later b) new two reads);
   }
 
-module _ {A : Type 0} (old new : FunctionBuilder) (operands : List ℕ) (p : Requests) (g : Results) (values : A → List ℕ) (answer : Result A BuildError) (makes : Makes operands p g values old new answer) where
+module _ {A : Type 0} {R : Type 0} (old new : FunctionBuilder R) (operands : List ℕ) (p : Requests) (g : Results) (values : A → List ℕ) (answer : Result A BuildError) (makes : Makes operands p g values old new answer) where
   -- on operands among others
   pub makes_from : (others : List ℕ) (pick : List Name → List Name)
       → ((calls : List AnsweredCall) (names : List Name) → AllZip (NamesValue calls) names others → AllZip (NamesValue calls) (pick names) operands)
@@ -182,14 +182,14 @@ module _ {A : Type 0} (old new : FunctionBuilder) (operands : List ℕ) (p : Req
   }
 
 -- it failed
-pub makes_failed : {A B : Type 0} (old new : FunctionBuilder) (operands : List ℕ) (p : Requests) (g : Results) (values : B → List ℕ) (r : Result B BuildError) (e y : BuildError)
+pub makes_failed : {A B : Type 0} {R : Type 0} (old new : FunctionBuilder R) (operands : List ℕ) (p : Requests) (g : Results) (values : B → List ℕ) (r : Result B BuildError) (e y : BuildError)
     → InLine {A = A} old new (Err e) → r ≡ Err y → y ≡ e → Makes operands p g values old new r
 makes_failed old new operands p g values r e y line is same =
     subst (λ (answer : Result _ BuildError). Makes operands p g values old new answer) (sym (is ∙ ap Err same))
     (record { line = line_err old new e line; stands = λ signature calls names stands named. tt })
 
 -- nothing was called
-pub makes_none : {A : Type 0} (b : FunctionBuilder) (operands : List ℕ) (a : A) (values : A → List ℕ) → values a ≡ [] → b.failed ≡ false → HasCurrent b
+pub makes_none : {A : Type 0} {R : Type 0} (b : FunctionBuilder R) (operands : List ℕ) (a : A) (values : A → List ℕ) → values a ≡ [] → b.failed ≡ false → HasCurrent b
     → Makes operands (λ place names. []) no_results values b b (Ok a)
 makes_none b operands a values none sound current = record {
   line = line_none b a sound current;
@@ -204,7 +204,7 @@ makes_none b operands a values none sound current = record {
 
 -- ONE CALL ----------------------------------------------------------------------------------------------------------------
 
-module _ (operands : List ℕ) (old new : FunctionBuilder) (shape : InstructionData) (ty : «Type») (answer : Result ℕ BuildError) (current : HasCurrent old) where
+module _ {R : Type 0} (operands : List ℕ) (old new : FunctionBuilder R) (shape : InstructionData) (ty : «Type») (answer : Result ℕ BuildError) (current : HasCurrent old) where
   -- an instruction whose result is answered
   pub value_makes : (instruction : List Name → Instruction Name Name) (given : «Type») → ((names : List Name) → emitted_types (instruction names) ≡ given ∷ [])
       → ((signature : SignatureShape) (calls : List AnsweredCall) (names : List Name) → StandsFor signature calls old → AllZip (NamesValue calls) names operands
@@ -251,7 +251,7 @@ module _ (operands : List ℕ) (old new : FunctionBuilder) (shape : InstructionD
       }
 
 -- an entry of a table
-pub entry_makes : (entry : TableEntry) (old new : FunctionBuilder) (answer : Result ℕ BuildError) → IsImport entry → HasCurrent old → MakesEntry entry old new answer
+pub entry_makes : {R : Type 0} (entry : TableEntry) (old new : FunctionBuilder R) (answer : Result ℕ BuildError) → IsImport entry → HasCurrent old → MakesEntry entry old new answer
     → Makes [] (λ place names. MakeEntry entry ∷ []) no_results (λ number. []) old new answer
 entry_makes entry old new answer imports current makes = record {
   line = entry_line entry old new answer imports current makes;
@@ -264,7 +264,7 @@ entry_makes entry old new answer imports current makes = record {
     by signature calls (Ok number) stands = record { added = answered (MakeEntry entry) (number ∷ []) ∷ []; asked = refl; stands = stands; named = tt }
 
 -- another answer of the same kind
-pub makes_ok : {A B : Type 0} (old new : FunctionBuilder) (operands : List ℕ) (p : Requests) (g : Results) (a : A) (values : A → List ℕ) (b : B) (others : B → List ℕ) → others b ≡ values a
+pub makes_ok : {A B : Type 0} {R : Type 0} (old new : FunctionBuilder R) (operands : List ℕ) (p : Requests) (g : Results) (a : A) (values : A → List ℕ) (b : B) (others : B → List ℕ) → others b ≡ values a
     → Makes operands p g values old new (Ok a) → Makes operands p g others old new (Ok b)
 makes_ok old new operands p g a values b others same makes = record {
   line = line_ok old new a b makes.line;

@@ -43,7 +43,7 @@ moved_is plan other pieces call is = ap (λ (p : MovePlan). moved_by p pieces ca
 compared_is : (plan other : ComparePlan) (constant : ℤ → Script) (loads : «Type» → Script) (call : Script) → plan ≡ other → compared_by other constant loads call ≡ compared_by plan constant loads call
 compared_is plan other constant loads call is = ap (λ (p : ComparePlan). compared_by p constant loads call) (sym is)
 
-module _ (config : TargetFrontendConfig) (old new : FunctionBuilder) where
+module _ {R : Type 0} (config : TargetFrontendConfig) (old new : FunctionBuilder R) where
   abbrev tables : TableLists
   tables = old.func.now.tables
 

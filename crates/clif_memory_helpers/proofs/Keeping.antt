@@ -77,13 +77,13 @@ module _ (f : Body) (block : ℕ) (shape : InstructionData) (ty : «Type») (pla
 -- ONE CALL ----------------------------------------------------------------------------------------------------------------
 
 -- the function's instructions stay, and so does what is tracked
-pub keeps_insts : (old new : FunctionBuilder) → new.func.now.insts ≡ old.func.now.insts → new.ctx.now.ssa.tracking ≡ old.ctx.now.ssa.tracking → ((x b : ℕ) → RemembersIn x b old new) → KeepsState old new
+pub keeps_insts : {R : Type 0} (old new : FunctionBuilder R) → new.func.now.insts ≡ old.func.now.insts → new.ctx.now.parts.ssa.tracking ≡ old.ctx.now.parts.ssa.tracking → ((x b : ℕ) → RemembersIn x b old new) → KeepsState old new
 keeps_insts old new same tracking remembers = record { placed = placed_same old.srcloc old.func.now new.func.now same; remembers = remembers; tracking = tracking }
 
-pub keeps_none : (b : FunctionBuilder) → KeepsState b b
+pub keeps_none : {R : Type 0} (b : FunctionBuilder R) → KeepsState b b
 keeps_none b = keeps_insts b b refl refl (λ x c. record { recorded = λ v is. is; alike = λ u v same. same })
 
-pub keeps_on : (old mid new : FunctionBuilder) → length old.func.now.insts ≤ length mid.func.now.insts → mid.srcloc ≡ old.srcloc → KeepsState old mid → KeepsState mid new → KeepsState old new
+pub keeps_on : {R : Type 0} (old mid new : FunctionBuilder R) → length old.func.now.insts ≤ length mid.func.now.insts → mid.srcloc ≡ old.srcloc → KeepsState old mid → KeepsState mid new → KeepsState old new
 keeps_on old mid new more here first next = record {
   placed = placed_on old.srcloc old.func.now mid.func.now new.func.now first.placed (subst (λ (place : ℕ). ArePlaced place mid.func.now new.func.now) here next.placed) more;
   remembers = λ x b.
@@ -93,11 +93,11 @@ keeps_on old mid new more here first next = record {
   tracking = next.tracking ∙ first.tracking;
 }
 
-module _ (old new : FunctionBuilder) (shape : InstructionData) (ty : «Type») (current : HasCurrent old) where
+module _ {R : Type 0} (old new : FunctionBuilder R) (shape : InstructionData) (ty : «Type») (current : HasCurrent old) where
   at_block : (P : ℕ → Type 0) → IfSome old.position P → P current.0
   at_block P holds = subst (λ (o : Option ℕ). IfSome o P) current.1 holds
 
-  appended_keeps : (inst : ℕ) → Appends old new current.0 shape ty inst → new.ctx.now.ssa.tracking ≡ old.ctx.now.ssa.tracking → ((x b : ℕ) → RemembersIn x b old new) → KeepsState old new
+  appended_keeps : (inst : ℕ) → Appends old new current.0 shape ty inst → new.ctx.now.parts.ssa.tracking ≡ old.ctx.now.parts.ssa.tracking → ((x b : ℕ) → RemembersIn x b old new) → KeepsState old new
   appended_keeps inst appends tracking remembers = record {
     placed = subst (ArePlaced old.srcloc old.func.now) (sym appends.function) (placed_appended old.func.now current.0 shape ty old.srcloc);
     remembers = remembers;
@@ -122,6 +122,6 @@ module _ (old new : FunctionBuilder) (shape : InstructionData) (ty : «Type») (
   value_tables v builds = tables_appended (length old.func.now.insts) (at_block (λ block. AppendsValue old new block shape ty v) builds.appends).0
 
 -- the tables were set, or an entry was made
-pub set_keeps : {A : Type 0} (old new : FunctionBuilder) (tables : TableLists) (a : A) → SetsTables tables old new (Ok a) → KeepsState old new
+pub set_keeps : {A : Type 0} {R : Type 0} (old new : FunctionBuilder R) (tables : TableLists) (a : A) → SetsTables tables old new (Ok a) → KeepsState old new
 set_keeps old new tables a sets =
     keeps_insts old new (ap (λ (f : Body). f.insts) sets.function) (ap (λ (c : ContextState). c.ssa.tracking) sets.context) sets.remembers

@@ -63,13 +63,13 @@ tables_inserted f block = by (stands_in block f.layout)
     by false = refl
 
 -- an instruction changes no table
-pub tables_kept : (old new : FunctionBuilder) (shape : InstructionData) (ty : «Type») (v : ℕ) → HasCurrent old → BuildsValue old new shape ty (Ok v) → new.func.now.tables ≡ old.func.now.tables
+pub tables_kept : {R : Type 0} (old new : FunctionBuilder R) (shape : InstructionData) (ty : «Type») (v : ℕ) → HasCurrent old → BuildsValue old new shape ty (Ok v) → new.func.now.tables ≡ old.func.now.tables
 tables_kept old new shape ty v current builds =
     let appends = at_current old (λ block. Appends old new block shape ty (length old.func.now.insts) × (v ≡ length old.func.now.values)) current builds.appends in
     ap (λ (f : Body). f.tables) appends.0.function ∙ tables_inserted old.func.now current.0
 
 -- a constant, as other words say it
-pub const_is : (old new : FunctionBuilder) (imm held : ℤ) (ty other : «Type») (r : Result ℕ BuildError) → imm ≡ held → ty ≡ other → BuildsValue old new (shapes.unary_imm imm) ty r
+pub const_is : {R : Type 0} (old new : FunctionBuilder R) (imm held : ℤ) (ty other : «Type») (r : Result ℕ BuildError) → imm ≡ held → ty ≡ other → BuildsValue old new (shapes.unary_imm imm) ty r
     → BuildsValue old new (shapes.unary_imm held) other r
 const_is old new imm held ty other r same is built =
     subst (λ (z : ℤ). BuildsValue old new (shapes.unary_imm z) other r) same (subst (λ (t : «Type»). BuildsValue old new (shapes.unary_imm imm) t r) is built)
@@ -80,7 +80,7 @@ module _ (reads : LedgerIsReadByNumber) (config : TargetFrontendConfig) (callee 
   abbrev signature : SignatureShape
   signature = library_signature config callee
 
-  pub imports_made : (old mid new : FunctionBuilder) (s : ℕ) (answer : Result ℕ BuildError) → HasCurrent old → MakesEntry (ASignature signature) old mid (Ok s)
+  pub imports_made : {R : Type 0} (old mid new : FunctionBuilder R) (s : ℕ) (answer : Result ℕ BuildError) → HasCurrent old → MakesEntry (ASignature signature) old mid (Ok s)
       → MakesEntry (AFunction (library_function callee s)) mid new answer → ImportsFunction config callee old new answer
   imports_made old mid new s answer current first next = record {
     number = number_is answer next.number;
@@ -124,7 +124,7 @@ module _ (reads : LedgerIsReadByNumber) (config : TargetFrontendConfig) (callee 
           }
 
   -- it failed
-  pub imports_failed : {A : Type 0} (old new : FunctionBuilder) (r : Result ℕ BuildError) (e y : BuildError) → InLine {A = A} old new (Err e) → r ≡ Err y → y ≡ e → ImportsFunction config callee old new r
+  pub imports_failed : {A : Type 0} {R : Type 0} (old new : FunctionBuilder R) (r : Result ℕ BuildError) (e y : BuildError) → InLine {A = A} old new (Err e) → r ≡ Err y → y ≡ e → ImportsFunction config callee old new r
   imports_failed old new r e y line is same =
       subst (λ (answer : Result ℕ BuildError). ImportsFunction config callee old new answer) (sym (is ∙ ap Err same))
       (record { number = tt; knows = tt; made = makes_failed old new [] _ _ (λ number. []) (Err e) e e line refl refl })
@@ -153,24 +153,24 @@ module _ (reads : LedgerIsReadByNumber) (asks : RequestsAskForTheirShapes) where
       let rest = all_values calls names values named.1 in
       record { numbers = ap₂ (λ o os. o ∷ os) named.0.number rest.numbers; are_values = (named.0.is_value, rest.are_values) }
 
-  call_asked : (args : List ℕ) (function : ℕ) (old : FunctionBuilder) (signature : SignatureShape) (calls : List AnsweredCall) (names : List Name) → StandsFor signature calls old → AllZip (NamesValue calls) names args
+  call_asked : {R : Type 0} (args : List ℕ) (function : ℕ) (old : FunctionBuilder R) (signature : SignatureShape) (calls : List AnsweredCall) (names : List Name) → StandsFor signature calls old → AllZip (NamesValue calls) names args
       → AsksForShape calls old.func.now (call_request old.func.now.tables function names) (shapes.call function args) Invalid
   call_asked args function old signature calls names stands named =
       subst (λ (t : TableLists). AsksForShape calls old.func.now (call_request t function names) (shapes.call function args) Invalid) stands.ledger.tables
       ((asks_at reads asks signature calls old stands).call_function function names args (all_values calls names args named))
 
-  pub call_made : (args : List ℕ) (function : ℕ) (old new : FunctionBuilder) (answer : Result ℕ BuildError) → HasCurrent old → Builds old new (shapes.call function args) Invalid answer
+  pub call_made : {R : Type 0} (args : List ℕ) (function : ℕ) (old new : FunctionBuilder R) (answer : Result ℕ BuildError) → HasCurrent old → Builds old new (shapes.call function args) Invalid answer
       → Makes args (calls_function old.func.now.tables function) no_results (λ inst. []) old new answer
   call_made args function old new answer current builds =
       inst_makes args old new (shapes.call function args) Invalid answer current (call_request old.func.now.tables function) refl refl (call_asked args function old) builds
 
   -- how many results a call for its number has
-  pub number_is : (args : List ℕ) (function inst : ℕ) (old new : FunctionBuilder) → HasCurrent old → GivesNumber old.func.now.tables function → Builds old new (shapes.call function args) Invalid (Ok inst)
+  pub number_is : {R : Type 0} (args : List ℕ) (function inst : ℕ) (old new : FunctionBuilder R) → HasCurrent old → GivesNumber old.func.now.tables function → Builds old new (shapes.call function args) Invalid (Ok inst)
       → (inst_at new.func.now inst).results ≡ length old.func.now.values ∷ []
   number_is args function inst old new current gives builds = current_results old new (shapes.call function args) Invalid i32 inst current builds.appends gives
 
   -- a call for its number
-  pub number_made : (args : List ℕ) (function inst v : ℕ) (old new : FunctionBuilder) → HasCurrent old → GivesNumber old.func.now.tables function
+  pub number_made : {R : Type 0} (args : List ℕ) (function inst v : ℕ) (old new : FunctionBuilder R) → HasCurrent old → GivesNumber old.func.now.tables function
       → Builds old new (shapes.call function args) Invalid (Ok inst) → v ≡ slice_index (inst_at new.func.now inst).results 0 → v < length new.func.now.values
       → MakesTyped i32 args (calls_function old.func.now.tables function) (λ place names. answer_of place 1 ∷ []) old new (Ok v)
   number_made args function inst v old new current gives builds is exists = record {
@@ -199,13 +199,13 @@ module _ (reads : LedgerIsReadByNumber) (asks : RequestsAskForTheirShapes) where
       number = is ∙ ap (λ (xs : List ℕ). slice_index xs 0) results
 
       typed : (value_at new.func.now v).ty ≡ i32
-      typed = appended-typed _ old.func.now old.ctx.now new.func.now new.ctx.now current.0 (shapes.call function args) Invalid i32 inst v
+      typed = appended-typed _ old.func.now old.ctx.now.parts new.func.now new.ctx.now.parts current.0 (shapes.call function args) Invalid i32 inst v
           (at_current old (λ block. Appends old new block (shapes.call function args) Invalid inst) current builds.appends) gives number
 
 -- CALLS BEHIND IMPORTS ----------------------------------------------------------------------------------------------------
 
 -- what a line is in which a value is made
-knows_on : (old new : FunctionBuilder) (shape : InstructionData) (ty : «Type») (v : ℕ) (callee : LibCall) (signature : SignatureShape) (function : ℕ) → HasCurrent old → BuildsValue old new shape ty (Ok v)
+knows_on : {R : Type 0} (old new : FunctionBuilder R) (shape : InstructionData) (ty : «Type») (v : ℕ) (callee : LibCall) (signature : SignatureShape) (function : ℕ) → HasCurrent old → BuildsValue old new shape ty (Ok v)
     → KnowsFunction old.func.now.tables callee signature function → KnowsFunction new.func.now.tables callee signature function
 knows_on old new shape ty v callee signature function current builds knows = subst (λ (t : TableLists). KnowsFunction t callee signature function) (sym (tables_kept old new shape ty v current builds)) knows
 
@@ -221,13 +221,13 @@ module _ (reads : LedgerIsReadByNumber) (asks : RequestsAskForTheirShapes) (conf
   pointer = pointer_type_of config.pointer_width
 
   -- the imports, on any operands
-  imports_on : (callee : LibCall) (operands : List ℕ) (old mid : FunctionBuilder) (f : ℕ) → ImportsFunction config callee old mid (Ok f)
+  imports_on : {R : Type 0} (callee : LibCall) (operands : List ℕ) (old mid : FunctionBuilder R) (f : ℕ) → ImportsFunction config callee old mid (Ok f)
       → Makes operands (λ place names. imports config callee old.func.now.tables) no_results (λ (number : ℕ). []) old mid (Ok f)
   imports_on callee operands old mid f imported =
       makes_from old mid [] (λ place names. imports config callee old.func.now.tables) no_results (λ (number : ℕ). []) (Ok f) imported.made operands (λ names. []) (λ calls names named. tt)
 
   -- a call on values
-  module _ {A : Type 0} (callee : LibCall) (a b c f : ℕ) (old mid new : FunctionBuilder) (answer : Result A BuildError) (values : A → List ℕ) (has : ImportsFunction config callee old mid (Ok f)) where
+  module _ {A : Type 0} {R : Type 0} (callee : LibCall) (a b c f : ℕ) (old mid new : FunctionBuilder R) (answer : Result A BuildError) (values : A → List ℕ) (has : ImportsFunction config callee old mid (Ok f)) where
     sized_is : (place : ℕ) (names : List Name) → length names ≡ 3
         → imports config callee old.func.now.tables ++ calls_function mid.func.now.tables f (place + 2) names ≡ copies_sized config callee old.func.now.tables place names
     sized_is place names long =
@@ -243,7 +243,7 @@ module _ (reads : LedgerIsReadByNumber) (asks : RequestsAskForTheirShapes) (conf
         (copies_sized config callee old.func.now.tables) later (λ place names long. (sized_is place names long, same place names))
 
   -- a copy of a known size
-  pub copy_known_made : (callee : LibCall) (size t s f z : ℕ) (old mid one new : FunctionBuilder) (answer : Result (Unit {0}) BuildError) → HasCurrent mid → ImportsFunction config callee old mid (Ok f)
+  pub copy_known_made : {R : Type 0} (callee : LibCall) (size t s f z : ℕ) (old mid one new : FunctionBuilder R) (answer : Result (Unit {0}) BuildError) → HasCurrent mid → ImportsFunction config callee old mid (Ok f)
       → BuildsValue mid one (shapes.unary_imm (size_constant size)) pointer (Ok z)
       → Makes (t ∷ s ∷ z ∷ []) (calls_function one.func.now.tables f) no_results no_values one new answer
       → Makes (t ∷ s ∷ []) (copies_known config callee size old.func.now.tables) no_results no_values old new answer
@@ -279,7 +279,7 @@ module _ (reads : LedgerIsReadByNumber) (asks : RequestsAskForTheirShapes) (conf
           ∷ building_with (imported old.func.now.tables) (calling callee (library_signature config callee) x y (answer_of p 1)) ∷ [])) two
 
   -- a byte that is widened
-  widened : (operands : List ℕ) (k byte : ℕ) (old new : FunctionBuilder) (answer : Result ℕ BuildError) → k < length operands → slice_index_or operands k 0 ≡ byte → HasCurrent old
+  widened : {R : Type 0} (operands : List ℕ) (k byte : ℕ) (old new : FunctionBuilder R) (answer : Result ℕ BuildError) → k < length operands → slice_index_or operands k 0 ≡ byte → HasCurrent old
       → BuildsValue old new (shapes.convert Uextend byte) i32 answer
       → Makes operands (λ place names. building (computing (Convert Uextend) i32 (nth names k ∷ [])) ∷ []) (λ place names. answer_of place 1 ∷ []) one_value old new answer
   widened operands k byte old new answer inside is current built =
@@ -289,7 +289,7 @@ module _ (reads : LedgerIsReadByNumber) (asks : RequestsAskForTheirShapes) (conf
       built
 
   -- a fill with values
-  pub fill_sized_made : (t b z f w : ℕ) (old mid one new : FunctionBuilder) (answer : Result (Unit {0}) BuildError) → HasCurrent mid → ImportsFunction config Memset old mid (Ok f)
+  pub fill_sized_made : {R : Type 0} (t b z f w : ℕ) (old mid one new : FunctionBuilder R) (answer : Result (Unit {0}) BuildError) → HasCurrent mid → ImportsFunction config Memset old mid (Ok f)
       → BuildsValue mid one (shapes.convert Uextend b) i32 (Ok w)
       → Makes (t ∷ w ∷ z ∷ []) (calls_function one.func.now.tables f) no_results no_values one new answer
       → Makes (t ∷ b ∷ z ∷ []) (fills_sized config old.func.now.tables) no_results no_values old new answer
@@ -325,7 +325,7 @@ module _ (reads : LedgerIsReadByNumber) (asks : RequestsAskForTheirShapes) (conf
           ∷ building_with (imported old.func.now.tables) (calling Memset (library_signature config Memset) x (answer_of p 1) k) ∷ [])) two
 
   -- a fill with a known byte and of a known size
-  pub fill_known_made : (byte size t f b z w : ℕ) (old mid one two three new : FunctionBuilder) (answer : Result (Unit {0}) BuildError) → HasCurrent mid → ImportsFunction config Memset old mid (Ok f)
+  pub fill_known_made : {R : Type 0} (byte size t f b z w : ℕ) (old mid one two three new : FunctionBuilder R) (answer : Result (Unit {0}) BuildError) → HasCurrent mid → ImportsFunction config Memset old mid (Ok f)
       → BuildsValue mid one (shapes.unary_imm (pos byte)) i8 (Ok b) → BuildsValue one two (shapes.unary_imm (size_constant size)) pointer (Ok z) → BuildsValue two three (shapes.convert Uextend b) i32 (Ok w)
       → Makes (t ∷ w ∷ z ∷ []) (calls_function three.func.now.tables f) no_results no_values three new answer
       → Makes (t ∷ []) (fills_known config byte size old.func.now.tables) no_results no_values old new answer
@@ -376,7 +376,7 @@ module _ (reads : LedgerIsReadByNumber) (asks : RequestsAskForTheirShapes) (conf
           ∙ ap (λ (k : ℕ). Written (behind_imports place) (suc (behind_imports place)) k x) r
 
   -- a comparison of a known size
-  pub compare_known_made : (condition : IntCC) (size l r f z o n : ℕ) (old mid one two three new : FunctionBuilder) (answer : Result ℕ BuildError) → HasCurrent mid → ImportsFunction config Memcmp old mid (Ok f)
+  pub compare_known_made : {R : Type 0} (condition : IntCC) (size l r f z o n : ℕ) (old mid one two three new : FunctionBuilder R) (answer : Result ℕ BuildError) → HasCurrent mid → ImportsFunction config Memcmp old mid (Ok f)
       → BuildsValue mid one (shapes.unary_imm (size_constant size)) pointer (Ok z)
       → MakesTyped i32 (l ∷ r ∷ z ∷ []) (calls_function one.func.now.tables f) (λ place names. answer_of place 1 ∷ []) one two (Ok o)
       → BuildsValue two three (shapes.unary_imm (pos 0)) i32 (Ok n) → BuildsValue three new (shapes.int_compare condition o n) (value_at three.func.now o).ty answer
@@ -435,7 +435,7 @@ module _ (reads : LedgerIsReadByNumber) (asks : RequestsAskForTheirShapes) (conf
           )
 
 -- a value that isn't made
-pub typed_failed : {A : Type 0} (ty : «Type») (old new : FunctionBuilder) (operands : List ℕ) (p : Requests) (g : Results) (r : Result ℕ BuildError) (e y : BuildError)
+pub typed_failed : {A : Type 0} {R : Type 0} (ty : «Type») (old new : FunctionBuilder R) (operands : List ℕ) (p : Requests) (g : Results) (r : Result ℕ BuildError) (e y : BuildError)
     → InLine {A = A} old new (Err e) → r ≡ Err y → y ≡ e → MakesTyped ty operands p g old new r
 typed_failed ty old new operands p g r e y line is same =
     subst (λ (answer : Result ℕ BuildError). MakesTyped ty operands p g old new answer) (sym (is ∙ ap Err same))

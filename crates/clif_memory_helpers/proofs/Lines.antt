@@ -54,7 +54,7 @@ imports_on : (t u v : TableLists) → MayImport t u → MayImport u v → MayImp
 imports_on t u v first next = next ∙ ap (λ (w : TableLists). record w { signatures = v.signatures; functions = v.functions }) first
 
 -- a call behind a line
-module _ {A B : Type 0} (old mid new : FunctionBuilder) (a : A) (answer : Result B BuildError) (first : InLine old mid (Ok a)) (next : InLine mid new answer) where
+module _ {A B : Type 0} {R : Type 0} (old mid new : FunctionBuilder R) (a : A) (answer : Result B BuildError) (first : InLine old mid (Ok a)) (next : InLine mid new answer) where
   sound_between : IsTrue mid.failed → ⊥
   sound_between is = let fails : mid.failed ≡ false = first.call.fails in let true_is : mid.failed ≡ true = is in cc
 
@@ -64,7 +64,7 @@ module _ {A B : Type 0} (old mid new : FunctionBuilder) (a : A) (answer : Result
   pub line_on : InLine old new answer
   line_on = record {
     call = record {
-      loans = record { func = next.call.loans.func ∙ first.call.loans.func; ctx = next.call.loans.ctx ∙ first.call.loans.ctx };
+      loans = record { func = next.call.loans.func ∙ first.call.loans.func; ctx = next.call.loans.ctx ∙ first.call.loans.ctx; region = next.call.loans.region ∙ first.call.loans.region };
       position = next.call.position ∙ first.call.position;
       srcloc = next.call.srcloc ∙ first.call.srcloc;
       failed = (λ is. absurd (sound_between (next.call.failed.0 is)), λ is. absurd (sound_before is));
@@ -73,8 +73,8 @@ module _ {A B : Type 0} (old mid new : FunctionBuilder) (a : A) (answer : Result
       looks_once = λ once. next.call.looks_once (first.call.looks_once once);
       types = both (TypesStay old.func.now mid.func.now) (TypesStay mid.func.now new.func.now) (TypesStay old.func.now new.func.now) answer
           (types_on old.func.now mid.func.now new.func.now first.grows.0) first.call.types next.call.types;
-      fills = both (FillsNone old.ctx.now mid.ctx.now) (FillsNone mid.ctx.now new.ctx.now) (FillsNone old.ctx.now new.ctx.now) answer
-          (fills_on old.ctx.now mid.ctx.now new.ctx.now) first.call.fills next.call.fills;
+      fills = both (FillsNone old.ctx.now.parts mid.ctx.now.parts) (FillsNone mid.ctx.now.parts new.ctx.now.parts) (FillsNone old.ctx.now.parts new.ctx.now.parts) answer
+          (fills_on old.ctx.now.parts mid.ctx.now.parts new.ctx.now.parts) first.call.fills next.call.fills;
       left = λ is. next.call.left (first.call.left is);
       free = λ is. next.call.free (first.call.left is);
     };
@@ -89,7 +89,7 @@ module _ {A B : Type 0} (old mid new : FunctionBuilder) (a : A) (answer : Result
   }
 
 -- another answer of the same kind
-pub line_ok : {A B : Type 0} (old new : FunctionBuilder) (a : A) (b : B) → InLine old new (Ok a) → InLine old new (Ok b)
+pub line_ok : {A B : Type 0} {R : Type 0} (old new : FunctionBuilder R) (a : A) (b : B) → InLine old new (Ok a) → InLine old new (Ok b)
 line_ok old new a b line = record {
   call = record {
     loans = line.call.loans;
@@ -115,7 +115,7 @@ line_ok old new a b line = record {
 err_is : {A : Type 0} (e : BuildError) (r : Result A BuildError) → r ≡ Err e → r ≡ Err Failed → e ≡ Failed
 err_is e r one two = let same = sym one ∙ two in cc
 
-pub line_err : {A B : Type 0} (old new : FunctionBuilder) (e : BuildError) → InLine {A = A} old new (Err e) → InLine {A = B} old new (Err e)
+pub line_err : {A B : Type 0} {R : Type 0} (old new : FunctionBuilder R) (e : BuildError) → InLine {A = A} old new (Err e) → InLine {A = B} old new (Err e)
 line_err old new e line = record {
   call = record {
     loans = line.call.loans;
@@ -138,14 +138,14 @@ line_err old new e line = record {
   current = tt;
 }
 
-open_left : (b : FunctionBuilder) → HasCurrent b → IsLeft b → ⊥
-open_left b (block, at, inside, unfilled) left = unfilled (subst (λ (p : Option ℕ). IfSome p (λ block. status_of b.ctx.now block ≡ Filled)) at left.filled)
+open_left : {R : Type 0} (b : FunctionBuilder R) → HasCurrent b → IsLeft b → ⊥
+open_left b (block, at, inside, unfilled) left = unfilled (subst (λ (p : Option ℕ). IfSome p (λ block. status_of b.ctx.now.parts block ≡ Filled)) at left.filled)
 
 -- nothing was called
-pub line_none : {A : Type 0} (b : FunctionBuilder) (a : A) → b.failed ≡ false → HasCurrent b → InLine b b (Ok a)
+pub line_none : {A : Type 0} {R : Type 0} (b : FunctionBuilder R) (a : A) → b.failed ≡ false → HasCurrent b → InLine b b (Ok a)
 line_none b a sound current = record {
   call = record {
-    loans = record { func = refl; ctx = refl };
+    loans = record { func = refl; ctx = refl; region = refl };
     position = refl;
     srcloc = refl;
     failed = (λ is. absurd (not_failed a is), λ is. let true_is : b.failed ≡ true = is in cc);
@@ -166,10 +166,10 @@ line_none b a sound current = record {
 }
 
 -- a builder that failed
-pub line_failed : {A : Type 0} (b : FunctionBuilder) → b.failed ≡ true → InLine {A = A} b b (Err Failed)
+pub line_failed : {A : Type 0} {R : Type 0} (b : FunctionBuilder R) → b.failed ≡ true → InLine {A = A} b b (Err Failed)
 line_failed b is = record {
   call = record {
-    loans = record { func = refl; ctx = refl };
+    loans = record { func = refl; ctx = refl; region = refl };
     position = refl;
     srcloc = refl;
     failed = (λ same. is, λ failed. refl);
@@ -189,7 +189,7 @@ line_failed b is = record {
   current = tt;
 }
 
-module _ (old new : FunctionBuilder) (shape : InstructionData) (ty : «Type») (answer : Result ℕ BuildError) (current : HasCurrent old) where
+module _ {R : Type 0} (old new : FunctionBuilder R) (shape : InstructionData) (ty : «Type») (answer : Result ℕ BuildError) (current : HasCurrent old) where
   tables_same : new.func.now.tables ≡ old.func.now.tables → MayImport old.func.now.tables new.func.now.tables
   tables_same same = subst (MayImport old.func.now.tables) (sym same) refl
 
@@ -232,9 +232,9 @@ module _ (old new : FunctionBuilder) (shape : InstructionData) (ty : «Type») (
     current = builds.current;
   }
 
-  none_filled : new.position ≡ old.position → FillsCurrent old new → HasCurrent new → FillsNone old.ctx.now new.ctx.now
+  none_filled : new.position ≡ old.position → FillsCurrent old new → HasCurrent new → FillsNone old.ctx.now.parts new.ctx.now.parts
   none_filled at fills (block, is, inside, unfilled) b filled =
-      fills b (λ here. unfilled (subst (λ (k : ℕ). status_of new.ctx.now k ≡ Filled) (same_Some b block (sym here ∙ sym at ∙ is)) filled)) filled
+      fills b (λ here. unfilled (subst (λ (k : ℕ). status_of new.ctx.now.parts k ≡ Filled) (same_Some b block (sym here ∙ sym at ∙ is)) filled)) filled
 
   over_two : (P Q R : Type 0) (r : Result ℕ BuildError) → (P → Q → R) → OnOk r P → OnOk r Q → OnOk r R
   over_two P Q R (Ok v) make p q = make p q
@@ -252,7 +252,7 @@ module _ (old new : FunctionBuilder) (shape : InstructionData) (ty : «Type») (
       fails = builds.fails;
       looks_once = builds.looks_once;
       types = builds.types;
-      fills = over_two (FillsCurrent old new) (HasCurrent new) (FillsNone old.ctx.now new.ctx.now) answer (none_filled builds.position) builds.fills (builds.current goes);
+      fills = over_two (FillsCurrent old new) (HasCurrent new) (FillsNone old.ctx.now.parts new.ctx.now.parts) answer (none_filled builds.position) builds.fills (builds.current goes);
       left = λ left. absurd (open_left old current left);
       free = λ left. absurd (open_left old current left);
     };
@@ -265,7 +265,7 @@ module _ (old new : FunctionBuilder) (shape : InstructionData) (ty : «Type») (
   }
 
 -- memory was refused
-pub refused_line : (old new : FunctionBuilder) (e : BuildError) → HasCurrent old → ((shape : InstructionData) (ty : «Type») → Builds old new shape ty (Err e))
+pub refused_line : {R : Type 0} (old new : FunctionBuilder R) (e : BuildError) → HasCurrent old → ((shape : InstructionData) (ty : «Type») → Builds old new shape ty (Err e))
     → InLine {A = ℕ} old new (Err e)
 refused_line old new e current refused =
     inst_line old new (shapes.unary_imm (pos 0)) Invalid (Err e) current refl refl (refused (shapes.unary_imm (pos 0)) Invalid)
@@ -274,7 +274,7 @@ refused_line old new e current refused =
 abbrev pub IsImport : TableEntry → Type 0
 IsImport entry = (t : TableLists) → MayImport t (with_entry t entry)
 
-pub entry_line : (entry : TableEntry) (old new : FunctionBuilder) (answer : Result ℕ BuildError) → IsImport entry → HasCurrent old → MakesEntry entry old new answer → InLine old new answer
+pub entry_line : {R : Type 0} (entry : TableEntry) (old new : FunctionBuilder R) (answer : Result ℕ BuildError) → IsImport entry → HasCurrent old → MakesEntry entry old new answer → InLine old new answer
 entry_line entry old new answer imports current makes = record {
   call = makes.call;
   ssa = ap (λ (c : ContextState). c.ssa) makes.context;

@@ -73,7 +73,7 @@ one_name P each (a ∷ []) long = each a
 one_name P each (a ∷ b ∷ names) long = absurd (omega (arith, long))
 
 -- the type of what was built
-pub typed_as : (old new : FunctionBuilder) (shape : InstructionData) (ty held : «Type») (answer : Result ℕ BuildError) → result_type_of shape ty ≡ held → BuildsValue old new shape ty answer
+pub typed_as : {R : Type 0} (old new : FunctionBuilder R) (shape : InstructionData) (ty held : «Type») (answer : Result ℕ BuildError) → result_type_of shape ty ≡ held → BuildsValue old new shape ty answer
     → IfOk answer (λ value. HasType new value held)
 typed_as old new shape ty held (Err e) is builds = tt
 typed_as old new shape ty held (Ok v) is builds = (builds.exists, builds.typed ∙ is)
@@ -85,7 +85,7 @@ module _ (reads : LedgerIsReadByNumber) (accesses : Accesses) (flags : MemFlagsS
   count = accesses.count
 
   -- what was loaded is stored
-  pub copy_made : (target source : ℕ) (loaded values : List ℕ) (old mid new : FunctionBuilder) (answer : Result (Unit {0}) BuildError) → values ≡ take count loaded → length values ≡ count
+  pub copy_made : {R : Type 0} (target source : ℕ) (loaded values : List ℕ) (old mid new : FunctionBuilder R) (answer : Result (Unit {0}) BuildError) → values ≡ take count loaded → length values ≡ count
       → LoadsPieces accesses flags source count old mid (Ok loaded) → Makes (target ∷ values) (stores accesses flags count) no_results no_values mid new answer
       → Makes (target ∷ source ∷ []) (copied accesses flags) no_results no_values old new answer
   copy_made target source loaded values old mid new answer is long first next =
@@ -127,14 +127,14 @@ module _ (reads : LedgerIsReadByNumber) (accesses : Accesses) (flags : MemFlagsS
 
 module _ (reads : LedgerIsReadByNumber) (asks : RequestsAskForTheirShapes) where
   -- a constant
-  pub iconst_made : (operands : List ℕ) (imm : ℤ) (ty : «Type») (old new : FunctionBuilder) (answer : Result ℕ BuildError) → HasCurrent old → BuildsValue old new (shapes.unary_imm imm) ty answer
+  pub iconst_made : {R : Type 0} (operands : List ℕ) (imm : ℤ) (ty : «Type») (old new : FunctionBuilder R) (answer : Result ℕ BuildError) → HasCurrent old → BuildsValue old new (shapes.unary_imm imm) ty answer
       → Makes operands (λ place names. building (computing (Iconst imm) ty []) ∷ []) (λ place names. answer_of place 1 ∷ []) one_value old new answer
   iconst_made operands imm ty old new answer current builds =
       value_makes operands old new (shapes.unary_imm imm) ty answer current (λ names. computing (Iconst imm) ty []) ty (λ names. refl)
       (λ signature calls names stands named. (asks_at reads asks signature calls old stands).iconst ty imm) builds
 
   -- a load from the start of what an operand points to
-  pub start_loaded : (operands : List ℕ) (k source : ℕ) (flags : MemFlagsShape) (ty : «Type») (old new : FunctionBuilder) (answer : Result ℕ BuildError) → k < length operands → slice_index_or operands k 0 ≡ source
+  pub start_loaded : {R : Type 0} (operands : List ℕ) (k source : ℕ) (flags : MemFlagsShape) (ty : «Type») (old new : FunctionBuilder R) (answer : Result ℕ BuildError) → k < length operands → slice_index_or operands k 0 ≡ source
       → HasCurrent old → BuildsValue old new (shapes.load flags source (pos 0)) ty answer
       → Makes operands (λ place names. building (doing (Load flags (pos 0)) ty (nth names k ∷ [])) ∷ []) (λ place names. answer_of place 1 ∷ []) one_value old new answer
   start_loaded operands k source flags ty old new answer inside is current builds =
@@ -144,7 +144,7 @@ module _ (reads : LedgerIsReadByNumber) (asks : RequestsAskForTheirShapes) where
       builds
 
   -- a comparison of two operands of this type
-  pub compare_made : (operands : List ℕ) (j k x y : ℕ) (condition : IntCC) (ty : «Type») (old new : FunctionBuilder) (answer : Result ℕ BuildError) → j < length operands → k < length operands
+  pub compare_made : {R : Type 0} (operands : List ℕ) (j k x y : ℕ) (condition : IntCC) (ty : «Type») (old new : FunctionBuilder R) (answer : Result ℕ BuildError) → j < length operands → k < length operands
       → slice_index_or operands j 0 ≡ x → slice_index_or operands k 0 ≡ y → HasType old x ty → HasCurrent old → BuildsValue old new (shapes.int_compare condition x y) (value_at old.func.now x).ty answer
       → Makes operands (λ place names. building (computing (Compare condition) ty (nth names j ∷ nth names k ∷ [])) ∷ []) (λ place names. answer_of place 1 ∷ []) one_value old new answer
   compare_made operands j k x y condition ty old new answer first second is_x is_y typed current builds =
@@ -160,7 +160,7 @@ module _ (reads : LedgerIsReadByNumber) (asks : RequestsAskForTheirShapes) where
           ((asks_at reads asks signature calls old stands).compare condition (nth names j) (nth names k) x y left right)
 
   -- a constant and stores of it
-  pub fill_made : (accesses : Accesses) (flags : MemFlagsShape) (imm : ℤ) (target constant : ℕ) (values : List ℕ) (old mid new : FunctionBuilder) (answer : Result (Unit {0}) BuildError)
+  pub fill_made : {R : Type 0} (accesses : Accesses) (flags : MemFlagsShape) (imm : ℤ) (target constant : ℕ) (values : List ℕ) (old mid new : FunctionBuilder R) (answer : Result (Unit {0}) BuildError)
       → values ≡ replicate accesses.count constant → HasCurrent old → BuildsValue old mid (shapes.unary_imm imm) accesses.ty (Ok constant)
       → Makes (target ∷ values) (stores accesses flags accesses.count) no_results no_values mid new answer
       → Makes (target ∷ []) (filled accesses flags imm) no_results no_values old new answer
@@ -192,7 +192,7 @@ module _ (reads : LedgerIsReadByNumber) (asks : RequestsAskForTheirShapes) where
           ap (λ (ns : List Name). building (computing (Iconst imm) accesses.ty []) ∷ map building (store_instructions flags accesses.ty accesses.bytes t 0 ns)) (take-replicate count count (answer_of place 1) less)
 
   -- two loads and a comparison
-  pub loads_compared : (condition : IntCC) (ty : «Type») (left_flags right_flags : MemFlagsShape) (left right x y : ℕ) (old one two new : FunctionBuilder) (answer : Result ℕ BuildError) → HasCurrent old
+  pub loads_compared : {R : Type 0} (condition : IntCC) (ty : «Type») (left_flags right_flags : MemFlagsShape) (left right x y : ℕ) (old one two new : FunctionBuilder R) (answer : Result ℕ BuildError) → HasCurrent old
       → BuildsValue old one (shapes.load left_flags left (pos 0)) ty (Ok x) → BuildsValue one two (shapes.load right_flags right (pos 0)) ty (Ok y)
       → BuildsValue two new (shapes.int_compare condition x y) (value_at two.func.now x).ty answer
       → Makes (left ∷ right ∷ []) (compared condition ty left_flags right_flags) third_result one_value old new answer

@@ -61,23 +61,23 @@ names_more place (suc count) k is =
 
 -- TYPES -------------------------------------------------------------------------------------------------------------------
 
-type_on : {A : Type 0} (a : A) (old new : FunctionBuilder) (value : ℕ) (ty : «Type») → InLine old new (Ok a) → HasType old value ty → HasType new value ty
+type_on : {A : Type 0} {R : Type 0} (a : A) (old new : FunctionBuilder R) (value : ℕ) (ty : «Type») → InLine old new (Ok a) → HasType old value ty → HasType new value ty
 type_on a old new value ty line (inside, is) = let more = line.grows.0 in (omega (arith, more, inside), line.call.types value inside ∙ is)
 
-pub typed_on : {A : Type 0} (a : A) (old new : FunctionBuilder) (ty : «Type») (values : List ℕ) → InLine old new (Ok a) → AllTyped old ty values → AllTyped new ty values
+pub typed_on : {A : Type 0} {R : Type 0} (a : A) (old new : FunctionBuilder R) (ty : «Type») (values : List ℕ) → InLine old new (Ok a) → AllTyped old ty values → AllTyped new ty values
 typed_on a old new ty [] line typed = tt
 typed_on a old new ty (v ∷ values) line typed = (type_on a old new v ty line typed.0, typed_on a old new ty values line typed.1)
 
-typed_push : (b : FunctionBuilder) (ty : «Type») (values : List ℕ) (v : ℕ) → AllTyped b ty values → HasType b v ty → AllTyped b ty (values ++ v ∷ [])
+typed_push : {R : Type 0} (b : FunctionBuilder R) (ty : «Type») (values : List ℕ) (v : ℕ) → AllTyped b ty values → HasType b v ty → AllTyped b ty (values ++ v ∷ [])
 typed_push b ty [] v typed is = (is, tt)
 typed_push b ty (w ∷ values) v typed is = (typed.0, typed_push b ty values v typed.1 is)
 
-typed_at : (b : FunctionBuilder) (ty : «Type») (values : List ℕ) (i : ℕ) → i < length values → AllTyped b ty values → HasType b (slice_index_or values i 0) ty
+typed_at : {R : Type 0} (b : FunctionBuilder R) (ty : «Type») (values : List ℕ) (i : ℕ) → i < length values → AllTyped b ty values → HasType b (slice_index_or values i 0) ty
 typed_at b ty [] i inside typed = absurd (omega (arith, inside))
 typed_at b ty (v ∷ values) zero inside typed = typed.0
 typed_at b ty (v ∷ values) (suc i) inside typed = typed_at b ty values i (omega (arith, inside)) typed.1
 
-pub typed_take : (b : FunctionBuilder) (ty : «Type») (k : ℕ) (values : List ℕ) → AllTyped b ty values → AllTyped b ty (take k values)
+pub typed_take : {R : Type 0} (b : FunctionBuilder R) (ty : «Type») (k : ℕ) (values : List ℕ) → AllTyped b ty values → AllTyped b ty (take k values)
 typed_take b ty zero values typed = tt
 typed_take b ty (suc k) [] typed = tt
 typed_take b ty (suc k) (v ∷ values) typed = (typed.0, typed_take b ty k values typed.1)
@@ -92,7 +92,7 @@ module _ (reads : LedgerIsReadByNumber) (asks : RequestsAskForTheirShapes) (acce
   bytes = accesses.bytes
 
   -- a value is loaded from the operand
-  load_made : (source i v : ℕ) (mid new : FunctionBuilder) → HasCurrent mid → BuildsValue mid new (shapes.load flags source (pos (i * bytes))) ty (Ok v)
+  load_made : {R : Type 0} (source i v : ℕ) (mid new : FunctionBuilder R) → HasCurrent mid → BuildsValue mid new (shapes.load flags source (pos (i * bytes))) ty (Ok v)
       → Makes (source ∷ []) (λ place names. building (doing (Load flags (pos (i * bytes))) ty (nth names 0 ∷ [])) ∷ []) (λ place names. answer_of place 1 ∷ []) one_value mid new (Ok v)
   load_made source i v mid new current builds =
       value_makes (source ∷ []) mid new (shapes.load flags source (pos (i * bytes))) ty (Ok v) current
@@ -102,7 +102,7 @@ module _ (reads : LedgerIsReadByNumber) (asks : RequestsAskForTheirShapes) (acce
       builds
 
   -- one more piece is loaded
-  pub loads_step : (source i n v : ℕ) (loaded more : List ℕ) (old mid new : FunctionBuilder) → n ≡ suc i → i < 4 → more ≡ slice_set loaded i v
+  pub loads_step : {R : Type 0} (source i n v : ℕ) (loaded more : List ℕ) (old mid new : FunctionBuilder R) → n ≡ suc i → i < 4 → more ≡ slice_set loaded i v
       → LoadsPieces accesses flags source i old mid (Ok loaded) → BuildsValue mid new (shapes.load flags source (pos (i * bytes))) ty (Ok v)
       → LoadsPieces accesses flags source n old new (Ok more)
   loads_step source i n v loaded more old mid new next few is so builds =
@@ -134,7 +134,7 @@ module _ (reads : LedgerIsReadByNumber) (asks : RequestsAskForTheirShapes) (acce
           sym (ap (piece_names place) next ∙ names_more place i _ here)
 
   -- one more operand is stored
-  pub stores_step : (target : ℕ) (values : List ℕ) (i n inst : ℕ) (old mid new : FunctionBuilder) → n ≡ suc i → i < length values → AllTyped old ty values
+  pub stores_step : {R : Type 0} (target : ℕ) (values : List ℕ) (i n inst : ℕ) (old mid new : FunctionBuilder R) → n ≡ suc i → i < length values → AllTyped old ty values
       → Makes (target ∷ values) (stores accesses flags i) no_results no_values old mid (Ok tt)
       → Builds mid new (shapes.store flags (slice_index_or values i 0) target (pos (i * bytes))) Invalid (Ok inst)
       → Makes (target ∷ values) (stores accesses flags n) no_results no_values old new (Ok tt)

@@ -152,7 +152,7 @@ operand_types (CallLibrary Memset) = None ∷ Some i8 ∷ None ∷ []
 operand_types (CallLibrary callee) = None ∷ None ∷ None ∷ []
 
 -- the value is there, and of this type
-abbrev pub IsOperand : FunctionBuilder → ℕ → Option «Type» → Type 0
+abbrev pub IsOperand : {R : Type 0} → FunctionBuilder R → ℕ → Option «Type» → Type 0
 IsOperand b value None = value < length b.func.now.values
 IsOperand b value (Some ty) = HasType b value ty
 
@@ -165,7 +165,7 @@ may_make width (CompareBytes compared) = is_unsigned compared.condition && fits_
 may_make width (CallLibrary callee) = true
 
 -- A helper may be called on these operands.
-pub record MayHelp (b : FunctionBuilder) (config : TargetFrontendConfig) (operation : ByteOperation) (operands : List ℕ) : Type 0 where
+pub record MayHelp {R : Type 0} (b : FunctionBuilder R) (config : TargetFrontendConfig) (operation : ByteOperation) (operands : List ℕ) : Type 0 where
   pub current : HasCurrent b
   pub operands_exist : AllZip (IsOperand b) operands (operand_types operation)
   pub condition : IsTrue (may_make config.pointer_width operation)
@@ -178,7 +178,7 @@ FillsWith (Fill fill) filling = (accesses : Accesses) → move_plan fill.size �
 FillsWith _ filling = Unit {0}
 
 -- A helper without a result was called.
-pub record Helps (config : TargetFrontendConfig) (operation : ByteOperation) (operands : List ℕ) (old new : FunctionBuilder) (answer : Result (Unit {0}) BuildError) : Type 0 where
+pub record Helps {R : Type 0} (config : TargetFrontendConfig) (operation : ByteOperation) (operands : List ℕ) (old new : FunctionBuilder R) (answer : Result (Unit {0}) BuildError) : Type 0 where
   pub filling : ℤ
   pub fills : OnOk answer (FillsWith operation filling)
   pub made : Makes operands (helper_calls config operation filling old.func.now.tables) no_results no_values old new answer
@@ -189,7 +189,7 @@ answer_type (CallLibrary callee) = i32
 answer_type _ = i8
 
 -- A helper with a result was called, which is the last call's.
-pub record Answers (config : TargetFrontendConfig) (operation : ByteOperation) (operands : List ℕ) (old new : FunctionBuilder) (answer : Result ℕ BuildError) : Type 0 where
+pub record Answers {R : Type 0} (config : TargetFrontendConfig) (operation : ByteOperation) (operands : List ℕ) (old new : FunctionBuilder R) (answer : Result ℕ BuildError) : Type 0 where
   pub typed : IfOk answer (λ value. HasType new value (answer_type operation))
   pub made : Makes operands (helper_calls config operation (pos 0) old.func.now.tables)
       (last_result (helper_calls config operation (pos 0) old.func.now.tables)) one_value old new answer

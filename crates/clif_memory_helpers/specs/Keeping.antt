@@ -11,7 +11,7 @@ pub record ArePlaced (place : ℕ) (f g : Body) : Type 0 where
 
 -- Each instruction that was made has the builder's source place. What was on record for a variable in a block stays, and stands for the
 -- same value; and what was recorded for stack maps stays.
-pub record KeepsState (old new : FunctionBuilder) : Type 0 where
+pub record KeepsState {R : Type 0} (old new : FunctionBuilder R) : Type 0 where
   pub placed : ArePlaced old.srcloc old.func.now new.func.now
   pub remembers : (x b : ℕ) → RemembersIn x b old new
-  pub tracking : new.ctx.now.ssa.tracking ≡ old.ctx.now.ssa.tracking
+  pub tracking : new.ctx.now.parts.ssa.tracking ≡ old.ctx.now.parts.ssa.tracking

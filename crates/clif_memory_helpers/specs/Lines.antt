@@ -22,21 +22,21 @@ MayImport t u = u ≡ record t { signatures = u.signatures; functions = u.functi
 
 -- Calls were made one behind the other, whatever the last one answers, and none made a branch or ended a block: as of one call that may
 -- fail. One can build on behind them.
-pub record InLine {A : Type 0} (old new : FunctionBuilder) (answer : Result A BuildError) : Type 0 where
+pub record InLine {A : Type 0} {R : Type 0} (old new : FunctionBuilder R) (answer : Result A BuildError) : Type 0 where
   pub call : IsCall old new answer
-  pub ssa : new.ctx.now.ssa ≡ old.ctx.now.ssa
-  pub variables : new.ctx.now.variables ≡ old.ctx.now.variables
+  pub ssa : new.ctx.now.parts.ssa ≡ old.ctx.now.parts.ssa
+  pub variables : new.ctx.now.parts.variables ≡ old.ctx.now.parts.variables
   pub grows : OnOk answer (Grows old.func.now new.func.now)
   pub keeps : OnOk answer (KeepsState old new)
   pub imports : OnOk answer (MayImport old.func.now.tables new.func.now.tables)
   pub current : OnOk answer (HasCurrent new)
 
 -- the value is there, and has this type
-abbrev pub HasType : FunctionBuilder → ℕ → «Type» → Type 0
+abbrev pub HasType : {R : Type 0} → FunctionBuilder R → ℕ → «Type» → Type 0
 HasType b value ty = (value < length b.func.now.values) × ((value_at b.func.now value).ty ≡ ty)
 
 -- The builder stands for the list with these plain calls at its end, answered in some way, and these name the values.
-pub record StandsOn (signature : SignatureShape) (calls : List AnsweredCall) (plain : Script) (names : List Name) (values : List ℕ) (new : FunctionBuilder) : Type 0 where
+pub record StandsOn {R : Type 0} (signature : SignatureShape) (calls : List AnsweredCall) (plain : Script) (names : List Name) (values : List ℕ) (new : FunctionBuilder R) : Type 0 where
   pub added : List AnsweredCall
   pub asked : script_of added ≡ plain
   pub stands : StandsFor signature (calls ++ added) new
@@ -52,7 +52,7 @@ Results = (place : ℕ) (names : List Name) → List Name
 
 -- Calls were made in a line on these operands: where the builder stood for a list of calls, it stands for the list with these plain
 -- calls at its end, and these names lead to what is answered.
-pub record Makes {A : Type 0} (operands : List ℕ) (made : Requests) (results : Results) (values : A → List ℕ) (old new : FunctionBuilder) (answer : Result A BuildError) : Type 0 where
+pub record Makes {A : Type 0} {R : Type 0} (operands : List ℕ) (made : Requests) (results : Results) (values : A → List ℕ) (old new : FunctionBuilder R) (answer : Result A BuildError) : Type 0 where
   pub line : InLine old new answer
   pub stands : (signature : SignatureShape) (calls : List AnsweredCall) (names : List Name) → StandsFor signature calls old → AllZip (NamesValue calls) names operands
       → IfOk answer (λ a. StandsOn signature calls (made (length calls) names) (results (length calls) names) (values a) new)

@@ -35,7 +35,7 @@ use Rattle.clif_memory_helpers.specs.Helpers.{behind_imports, by_call, library_e
 use Rattle.clif_memory_helpers.specs.Lines.{HasType, Makes, Requests, Results, last_result, no_results, no_values, nth, one_value}
 
 -- calls in a line, which answer nothing
-abbrev pub MakesLine : List ℕ → Requests → FunctionBuilder → FunctionBuilder → Result (Unit {0}) BuildError → Type 0
+abbrev pub MakesLine : {R : Type 0} → List ℕ → Requests → FunctionBuilder R → FunctionBuilder R → Result (Unit {0}) BuildError → Type 0
 MakesLine operands made old new answer = Makes operands made no_results no_values old new answer
 
 -- LOADS AND STORES --------------------------------------------------------------------------------------------------------
@@ -54,14 +54,14 @@ loads accesses flags count place names = map building (load_instructions flags a
 abbrev pub stores : Accesses → MemFlagsShape → (count : ℕ) → Requests
 stores accesses flags count place names = map building (store_instructions flags accesses.ty accesses.bytes (nth names 0) 0 (take count (drop 1 names)))
 
-abbrev pub StoresPieces : Accesses → MemFlagsShape → (target : ℕ) → List ℕ → FunctionBuilder → FunctionBuilder → Result (Unit {0}) BuildError → Type 0
+abbrev pub StoresPieces : {R : Type 0} → Accesses → MemFlagsShape → (target : ℕ) → List ℕ → FunctionBuilder R → FunctionBuilder R → Result (Unit {0}) BuildError → Type 0
 StoresPieces accesses flags target values old new answer = MakesLine (target ∷ values) (stores accesses flags accesses.count) old new answer
 
-abbrev pub AllTyped : FunctionBuilder → «Type» → List ℕ → Type 0
+abbrev pub AllTyped : {R : Type 0} → FunctionBuilder R → «Type» → List ℕ → Type 0
 AllTyped b ty values = AllByRecursion (λ value. HasType b value ty) values
 
 -- So many pieces are loaded; they stand at the front of a list of four.
-pub record LoadsPieces (accesses : Accesses) (flags : MemFlagsShape) (source count : ℕ) (old new : FunctionBuilder) (answer : Result (List ℕ) BuildError) : Type 0 where
+pub record LoadsPieces {R : Type 0} (accesses : Accesses) (flags : MemFlagsShape) (source count : ℕ) (old new : FunctionBuilder R) (answer : Result (List ℕ) BuildError) : Type 0 where
   pub many : IfOk answer (λ loaded. length loaded ≡ 4)
   pub typed : IfOk answer (λ loaded. AllTyped new accesses.ty (take count loaded))
   pub made : Makes (source ∷ []) (loads accesses flags count) (λ place names. piece_names place count) (λ loaded. take count loaded) old new answer
@@ -72,7 +72,7 @@ copied accesses flags place names =
     map building (load_instructions flags accesses.ty accesses.bytes (nth names 1) 0 accesses.count
     ++ store_instructions flags accesses.ty accesses.bytes (nth names 0) 0 (piece_names place accesses.count))
 
-abbrev pub CopiesPieces : Accesses → MemFlagsShape → (target source : ℕ) → FunctionBuilder → FunctionBuilder → Result (Unit {0}) BuildError → Type 0
+abbrev pub CopiesPieces : {R : Type 0} → Accesses → MemFlagsShape → (target source : ℕ) → FunctionBuilder R → FunctionBuilder R → Result (Unit {0}) BuildError → Type 0
 CopiesPieces accesses flags target source old new answer = MakesLine (target ∷ source ∷ []) (copied accesses flags) old new answer
 
 -- the flags of a copy's accesses, which are aligned where both addresses are
@@ -85,7 +85,7 @@ filled accesses flags filling place names =
     map building (computing (Iconst filling) accesses.ty []
     ∷ store_instructions flags accesses.ty accesses.bytes (nth names 0) 0 (replicate accesses.count (answer_of place 1)))
 
-pub record FillsPieces (accesses : Accesses) (flags : MemFlagsShape) (target byte : ℕ) (old new : FunctionBuilder) (answer : Result (Unit {0}) BuildError) : Type 0 where
+pub record FillsPieces {R : Type 0} (accesses : Accesses) (flags : MemFlagsShape) (target byte : ℕ) (old new : FunctionBuilder R) (answer : Result (Unit {0}) BuildError) : Type 0 where
   pub filling : ℤ
   pub repeats : RepeatsByte accesses.ty byte filling
   pub made : Makes (target ∷ []) (filled accesses flags filling) no_results no_values old new answer
@@ -105,16 +105,16 @@ abbrev pub first_result : Results
 first_result place names = answer_of place 1 ∷ []
 
 -- A value of this type is made.
-pub record MakesTyped (ty : «Type») (operands : List ℕ) (requests : Requests) (results : Results) (old new : FunctionBuilder) (answer : Result ℕ BuildError) : Type 0 where
+pub record MakesTyped {R : Type 0} (ty : «Type») (operands : List ℕ) (requests : Requests) (results : Results) (old new : FunctionBuilder R) (answer : Result ℕ BuildError) : Type 0 where
   pub typed : IfOk answer (λ value. HasType new value ty)
   pub made : Makes operands requests results one_value old new answer
 
 -- the result of the last call
-abbrev pub MakesLast : «Type» → List ℕ → Requests → FunctionBuilder → FunctionBuilder → Result ℕ BuildError → Type 0
+abbrev pub MakesLast : {R : Type 0} → «Type» → List ℕ → Requests → FunctionBuilder R → FunctionBuilder R → Result ℕ BuildError → Type 0
 MakesLast ty operands made old new answer = MakesTyped ty operands made (last_result made) old new answer
 
 -- what is loaded on both sides is compared
-abbrev pub ComparesLoads : IntCC → «Type» → (left right : Side) → FunctionBuilder → FunctionBuilder → Result ℕ BuildError → Type 0
+abbrev pub ComparesLoads : {R : Type 0} → IntCC → «Type» → (left right : Side) → FunctionBuilder R → FunctionBuilder R → Result ℕ BuildError → Type 0
 ComparesLoads condition ty left right old new answer =
     MakesTyped i8 (left.address ∷ right.address ∷ []) (compared condition ty left.flags right.flags) third_result old new answer
 
@@ -131,7 +131,7 @@ abbrev pub imports : TargetFrontendConfig → LibCall → TableLists → Script
 imports config callee tables = importing (library_entries config callee tables)
 
 -- A function of the C library is imported.
-pub record ImportsFunction (config : TargetFrontendConfig) (callee : LibCall) (old new : FunctionBuilder) (answer : Result ℕ BuildError) : Type 0 where
+pub record ImportsFunction {R : Type 0} (config : TargetFrontendConfig) (callee : LibCall) (old new : FunctionBuilder R) (answer : Result ℕ BuildError) : Type 0 where
   pub number : IfOk answer (λ function. function ≡ length old.func.now.tables.functions)
   pub knows : IfOk answer (KnowsFunction new.func.now.tables callee (library_signature config callee))
   pub made : Makes [] (λ place names. imports config callee old.func.now.tables) no_results (λ function. []) old new answer
@@ -151,11 +151,11 @@ abbrev pub calls_function : TableLists → (function : ℕ) → Requests
 calls_function tables function place names = call_request tables function names ∷ []
 
 -- a call of a function that the builder knows
-abbrev pub CallsFunction : (function : ℕ) → List ℕ → FunctionBuilder → FunctionBuilder → Result (Unit {0}) BuildError → Type 0
+abbrev pub CallsFunction : {R : Type 0} (function : ℕ) → List ℕ → FunctionBuilder R → FunctionBuilder R → Result (Unit {0}) BuildError → Type 0
 CallsFunction function values old new answer = MakesLine values (calls_function old.func.now.tables function) old new answer
 
 -- for its one result
-abbrev pub CallsForNumber : (function : ℕ) → List ℕ → FunctionBuilder → FunctionBuilder → Result ℕ BuildError → Type 0
+abbrev pub CallsForNumber : {R : Type 0} (function : ℕ) → List ℕ → FunctionBuilder R → FunctionBuilder R → Result ℕ BuildError → Type 0
 CallsForNumber function values old new answer = MakesTyped i32 values (calls_function old.func.now.tables function) first_result old new answer
 
 -- it gives one I32
@@ -190,20 +190,20 @@ compares_known config condition size tables place names =
 
 -- WHAT EACH STEP MAKES ----------------------------------------------------------------------------------------------------
 
-abbrev pub CopiesSized : TargetFrontendConfig → LibCall → List ℕ → FunctionBuilder → FunctionBuilder → Result (Unit {0}) BuildError → Type 0
+abbrev pub CopiesSized : {R : Type 0} → TargetFrontendConfig → LibCall → List ℕ → FunctionBuilder R → FunctionBuilder R → Result (Unit {0}) BuildError → Type 0
 CopiesSized config callee operands old new answer = MakesLine operands (copies_sized config callee old.func.now.tables) old new answer
 
-abbrev pub CopiesKnown : TargetFrontendConfig → LibCall → (size : ℕ) → List ℕ → FunctionBuilder → FunctionBuilder → Result (Unit {0}) BuildError → Type 0
+abbrev pub CopiesKnown : {R : Type 0} → TargetFrontendConfig → LibCall → (size : ℕ) → List ℕ → FunctionBuilder R → FunctionBuilder R → Result (Unit {0}) BuildError → Type 0
 CopiesKnown config callee size operands old new answer = MakesLine operands (copies_known config callee size old.func.now.tables) old new answer
 
-abbrev pub FillsSized : TargetFrontendConfig → List ℕ → FunctionBuilder → FunctionBuilder → Result (Unit {0}) BuildError → Type 0
+abbrev pub FillsSized : {R : Type 0} → TargetFrontendConfig → List ℕ → FunctionBuilder R → FunctionBuilder R → Result (Unit {0}) BuildError → Type 0
 FillsSized config operands old new answer = MakesLine operands (fills_sized config old.func.now.tables) old new answer
 
-abbrev pub FillsKnown : TargetFrontendConfig → (byte size : ℕ) → List ℕ → FunctionBuilder → FunctionBuilder → Result (Unit {0}) BuildError → Type 0
+abbrev pub FillsKnown : {R : Type 0} → TargetFrontendConfig → (byte size : ℕ) → List ℕ → FunctionBuilder R → FunctionBuilder R → Result (Unit {0}) BuildError → Type 0
 FillsKnown config byte size operands old new answer = MakesLine operands (fills_known config byte size old.func.now.tables) old new answer
 
-abbrev pub ComparesSized : TargetFrontendConfig → List ℕ → FunctionBuilder → FunctionBuilder → Result ℕ BuildError → Type 0
+abbrev pub ComparesSized : {R : Type 0} → TargetFrontendConfig → List ℕ → FunctionBuilder R → FunctionBuilder R → Result ℕ BuildError → Type 0
 ComparesSized config operands old new answer = MakesLast i32 operands (copies_sized config Memcmp old.func.now.tables) old new answer
 
-abbrev pub ComparesKnown : TargetFrontendConfig → IntCC → (size : ℕ) → List ℕ → FunctionBuilder → FunctionBuilder → Result ℕ BuildError → Type 0
+abbrev pub ComparesKnown : {R : Type 0} → TargetFrontendConfig → IntCC → (size : ℕ) → List ℕ → FunctionBuilder R → FunctionBuilder R → Result ℕ BuildError → Type 0
 ComparesKnown config condition size operands old new answer = MakesLast i8 operands (compares_known config condition size old.func.now.tables) old new answer

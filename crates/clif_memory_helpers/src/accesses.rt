@@ -23,8 +23,8 @@ pub(crate) struct Side {
 }
 
 // A copy: all is loaded before anything is stored, since the places may overlap.
-pub(crate) fn copy_pieces(
-    bx: &mut FunctionBuilder<'_>,
+pub(crate) fn copy_pieces<R>(
+    bx: &mut FunctionBuilder<'_, R>,
     accesses: Accesses,
     flags: MemFlagsData,
     target: Value,
@@ -49,8 +49,8 @@ pub(crate) fn copy_pieces(
 }
 
 // A fill: one constant, which is stored into each place.
-pub(crate) fn fill_pieces(
-    bx: &mut FunctionBuilder<'_>,
+pub(crate) fn fill_pieces<R>(
+    bx: &mut FunctionBuilder<'_, R>,
     accesses: Accesses,
     flags: MemFlagsData,
     target: Value,
@@ -75,8 +75,8 @@ pub(crate) fn fill_pieces(
 }
 
 // Loads, one place behind another. Behind what was loaded the array has the address again.
-fn load_pieces(
-    bx: &mut FunctionBuilder<'_>,
+fn load_pieces<R>(
+    bx: &mut FunctionBuilder<'_, R>,
     accesses: Accesses,
     flags: MemFlagsData,
     source: Value,
@@ -98,8 +98,8 @@ fn load_pieces(
 }
 
 // Stores of these values, one place behind another.
-fn store_pieces(
-    bx: &mut FunctionBuilder<'_>,
+fn store_pieces<R>(
+    bx: &mut FunctionBuilder<'_, R>,
     accesses: Accesses,
     flags: MemFlagsData,
     target: Value,
@@ -129,8 +129,8 @@ fn offset_of(number: u8, bytes: u8) -> i32
 }
 
 // A comparison of what is loaded on both sides.
-pub(crate) fn compare_loads(
-    bx: &mut FunctionBuilder<'_>,
+pub(crate) fn compare_loads<R>(
+    bx: &mut FunctionBuilder<'_, R>,
     cond: IntCC,
     ty: Type,
     left: Side,

@@ -159,7 +159,7 @@ pub trait MemoryHelpers {
             (left ∷ right ∷ []) self.old self.new result };
 }
 
-impl<'a> MemoryHelpers for FunctionBuilder<'a> {
+impl<'a, R> MemoryHelpers for FunctionBuilder<'a, R> {
     ghost may_help = { MayHelp };
 
     ghost helps = { Helps };

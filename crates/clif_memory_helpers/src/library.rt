@@ -39,8 +39,8 @@ fn library_signature(
 }
 
 // Imports a function of the C library, and its signature.
-fn import_library(
-    bx: &mut FunctionBuilder<'_>,
+fn import_library<R>(
+    bx: &mut FunctionBuilder<'_, R>,
     config: TargetFrontendConfig,
     callee: LibCall,
 ) -> Result<FuncRef, BuildError>
@@ -72,8 +72,8 @@ pub(crate) fn copying_function(non_overlapping: bool) -> LibCall
 }
 
 // A copy of bytes of which there are as many as a value says, by this function.
-pub(crate) fn copy_by_call(
-    bx: &mut FunctionBuilder<'_>,
+pub(crate) fn copy_by_call<R>(
+    bx: &mut FunctionBuilder<'_, R>,
     config: TargetFrontendConfig,
     callee: LibCall,
     target: Value,
@@ -93,8 +93,8 @@ pub(crate) fn copy_by_call(
 }
 
 // A copy of so many bytes.
-pub(crate) fn copy_known_by_call(
-    bx: &mut FunctionBuilder<'_>,
+pub(crate) fn copy_known_by_call<R>(
+    bx: &mut FunctionBuilder<'_, R>,
     config: TargetFrontendConfig,
     callee: LibCall,
     target: Value,
@@ -114,8 +114,8 @@ pub(crate) fn copy_known_by_call(
 }
 
 // A fill of bytes of which there are as many as a value says.
-pub(crate) fn fill_by_call(
-    bx: &mut FunctionBuilder<'_>,
+pub(crate) fn fill_by_call<R>(
+    bx: &mut FunctionBuilder<'_, R>,
     config: TargetFrontendConfig,
     target: Value,
     byte: Value,
@@ -135,8 +135,8 @@ pub(crate) fn fill_by_call(
 }
 
 // A fill of so many bytes.
-pub(crate) fn fill_known_by_call(
-    bx: &mut FunctionBuilder<'_>,
+pub(crate) fn fill_known_by_call<R>(
+    bx: &mut FunctionBuilder<'_, R>,
     config: TargetFrontendConfig,
     target: Value,
     byte: u8,
@@ -156,8 +156,8 @@ pub(crate) fn fill_known_by_call(
 }
 
 // A comparison of bytes of which there are as many as a value says.
-pub(crate) fn compare_by_call(
-    bx: &mut FunctionBuilder<'_>,
+pub(crate) fn compare_by_call<R>(
+    bx: &mut FunctionBuilder<'_, R>,
     config: TargetFrontendConfig,
     left: Value,
     right: Value,
@@ -176,8 +176,8 @@ pub(crate) fn compare_by_call(
 }
 
 // A comparison of so many bytes: the number that the function answers is compared with zero.
-pub(crate) fn compare_known_by_call(
-    bx: &mut FunctionBuilder<'_>,
+pub(crate) fn compare_known_by_call<R>(
+    bx: &mut FunctionBuilder<'_, R>,
     config: TargetFrontendConfig,
     cond: IntCC,
     left: Value,
@@ -199,8 +199,8 @@ pub(crate) fn compare_known_by_call(
 }
 
 // A call whose result isn't used.
-fn call_library(
-    bx: &mut FunctionBuilder<'_>,
+fn call_library<R>(
+    bx: &mut FunctionBuilder<'_, R>,
     function: FuncRef,
     args: &[Value],
 ) -> Result<(), BuildError>
@@ -216,8 +216,8 @@ fn call_library(
 }
 
 // A call for its one result.
-fn call_for_number(
-    bx: &mut FunctionBuilder<'_>,
+fn call_for_number<R>(
+    bx: &mut FunctionBuilder<'_, R>,
     function: FuncRef,
     args: &[Value],
 ) -> Result<Value, BuildError>

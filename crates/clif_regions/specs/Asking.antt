@@ -3,7 +3,8 @@ use Rattle.std.specs.Prelude.{◌≡◌, ◌-◌, ℕ, List, [], ◌∷◌, Opti
 use Rattle.std.specs.Borrow.{MutBor}
 use Rattle.std.specs.List.{FoldsTo, filter_map, range_with_len}
 use Rattle.clif_opcodes.specs.declared.opcodes.StackOpcode.TheVariants.{StackAddr}
-use Rattle.clif_types.specs.AliasRegions.{AliasRegionTable}
+use Rattle.clif_types.specs.AliasRegions.{AliasRegionTable, MayRefuse}
+use Rattle.clif_types.specs.declared.error.BuildError.{BuildError}
 use Rattle.clif_types.specs.declared.types.«Type».{«Type»}
 use Rattle.clif_instructions.specs.declared.instructions.InstructionData.{InstructionData}
 use Rattle.clif_instructions.specs.declared.instructions.InstructionData.TheVariants.{Load, StackLoad, Store}
@@ -13,6 +14,7 @@ use Rattle.clif_ir.specs.Reading.{def_of}
 use Rattle.clif_ir.specs.declared.function.ValueDef.{ValueDef}
 use Rattle.clif_ir.specs.declared.function.ValueDef.TheVariants as definition
 use Rattle.clif_meaning.specs.View.{first_type}
+use Rattle.clif_region_laws.specs.Regions.{AreAlikeButForRegions}
 
 -- ACCESSES ----------------------------------------------------------------------------------------------------------------
 
@@ -88,3 +90,18 @@ pub record IsAsked (asks : Asks) (inst : ℕ) (ty : «Type») (slot : ℕ) (old 
 abbrev pub IsAskedIf : Asks → (place : Option («Type» × ℕ)) → (inst : ℕ) → (old new : Body) → Type 0
 IsAskedIf asks None inst old new = new ≡ old
 IsAskedIf asks (Some place) inst old new = IsAsked asks inst place.0 place.1 old new
+
+-- The function's set of regions holds this refusal: memory, or, where there are 2^32 - 1 regions, that it is full.
+pub record HoldsRefusal (f : Body) (error : BuildError) : Type 0 where
+  pub held : f.tables.alias_regions.refusal ≡ Some error
+  pub may : MayRefuse f.tables.alias_regions.regions (Some error)
+
+-- The functions are alike but for regions, and each access from a number on names what the callback answered for it.
+pub record CarriesAnswers (asks : Asks) (first : ℕ) (old new : Body) : Type 0 where
+  pub alike : AreAlikeButForRegions old new
+  pub answered : AreAnswered asks first old new
+
+-- So it is where there is a callback, with this contract; without one nothing has changed.
+abbrev pub CarriesAnswersOf : {C : Type 0} → (callback : Option C) → (asks_of : C → Asks) → (first : ℕ) → (old new : Body) → Type 0
+CarriesAnswersOf None asks_of first old new = new ≡ old
+CarriesAnswersOf (Some callback) asks_of first old new = CarriesAnswers (asks_of callback) first old new

@@ -3,7 +3,7 @@ ghost use Rattle.std.specs.Prelude.{◌≡◌, ◌<◌, ◌-◌, length, IfErr, 
 ghost use Rattle.clif_ir.specs.Body.{inst_at, resolved, value_at};
 ghost use Rattle.clif_meaning.specs.View.{first_type};
 ghost use Rattle.clif_region_laws.specs.Regions.{AreAlikeButForRegions};
-ghost use Rattle.clif_regions.specs.Asking.{AreAnswered, IsAsked, IsAskedIf, slot_at, touched_by};
+ghost use Rattle.clif_regions.specs.Asking.{AreAnswered, HoldsRefusal, IsAsked, IsAskedIf, slot_at, touched_by};
 
 use crate::callback::{Callback, RegionOf};
 use clif_ir::{Function, InstructionData, ValueDef};
@@ -20,7 +20,7 @@ pub fn ask_regions(func: &mut Function, first: usize, callback: &Callback) -> Re
     ensures alike { AreAlikeButForRegions func.old func.new }
     ensures answered { OnOk result (AreAnswered (RegionOf.post callback.now.ask)
         first func.old func.new) }
-    ensures refused { IfErr result (λ error. func.new.tables.alias_regions.refusal ≡ Some error) }
+    ensures refused { IfErr result (HoldsRefusal func.new) }
 {
     let count = func.inst_count();
     for number in first..count {
@@ -35,7 +35,7 @@ fn ask_at(func: &mut Function, inst: Inst, callback: &Callback) -> Result<(), Bu
     ensures ok { OnOk result (IsAskedIf (RegionOf.post callback.now.ask)
         (touched_by func.old inst) inst func.old func.new) }
     ensures alike { OnErr result (AreAlikeButForRegions func.old func.new) }
-    ensures refused { IfErr result (λ error. func.new.tables.alias_regions.refusal ≡ Some error) }
+    ensures refused { IfErr result (HoldsRefusal func.new) }
 {
     match touched_by(func, inst) {
         Some((ty, slot)) => ask(func, inst, ty, slot, callback),
@@ -54,11 +54,12 @@ fn ask(
     requires { inst < length func.old.insts }
     ensures ok { OnOk result (IsAsked (RegionOf.post callback.now.ask) inst ty slot func.old func.new) }
     ensures alike { OnErr result (AreAlikeButForRegions func.old func.new) }
-    ensures refused { IfErr result (λ error. func.new.tables.alias_regions.refusal ≡ Some error) }
+    ensures refused { IfErr result (HoldsRefusal func.new) }
 {
     let regions = func.alias_regions_mut();
     let region = (callback.ask)(regions, ty, slot, 0);
     if let Some(error) = regions.refusal() {
+        regions.law_refusal();
         return Err(error);
     }
     func.set_alias_region(inst, region);

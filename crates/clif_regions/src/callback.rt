@@ -10,7 +10,8 @@ pub type RegionOf = Box<dyn Fn(&mut AliasRegionSet, Type, StackSlot, u32) -> Opt
 /// One that may be called with every argument.
 #[derive(Drop)]
 pub struct Callback {
-    pub(crate) ask: RegionOf,
+    /// What is asked.
+    pub ask: RegionOf,
     ghost callable: { RegionOf.IsAlwaysCallable ask },
 }
 

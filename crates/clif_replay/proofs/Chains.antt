@@ -25,10 +25,10 @@ use Rattle.clif_replay.specs.Ready.{KeepsTables}
 use Rattle.clif_replay.proofs.Making.{loans-stay}
 
 -- The builder hasn't failed, and made so many instructions with one result each.
-pub record Reaches (made : ℕ) (old b : FunctionBuilder) : Type 0 where
+pub record Reaches {R : Type 0} (made : ℕ) (old b : FunctionBuilder R) : Type 0 where
   pub loans : SameLoans old b
   pub sound : b.failed ≡ false
-  pub variables : b.ctx.now.variables ≡ old.ctx.now.variables
+  pub variables : b.ctx.now.parts.variables ≡ old.ctx.now.parts.variables
   pub name : b.func.now.name ≡ old.func.now.name
   pub tables : KeepsTables old b
   pub position : b.position ≡ old.position
@@ -36,8 +36,8 @@ pub record Reaches (made : ℕ) (old b : FunctionBuilder) : Type 0 where
   pub values : length b.func.now.values ≡ length old.func.now.values + made
 
 -- It came so far, and then failed at an instruction, behind two ones at most.
-pub record FailsBehind (old new : FunctionBuilder) (error : BuildError) : Type 0 where
-  pub between : FunctionBuilder
+pub record FailsBehind {R : Type 0} (old new : FunctionBuilder R) (error : BuildError) : Type 0 where
+  pub between : FunctionBuilder R
   pub made : ℕ
   pub few : made < 3
   pub reaches : Reaches made old between
@@ -49,7 +49,7 @@ pub record FailsBehind (old new : FunctionBuilder) (error : BuildError) : Type 0
 abbrev pub HasOneResult : InstructionData → Type 0
 HasOneResult shape = (tables : TableLists) (ty : «Type») → length (types_of_results tables shape ty) ≡ 1
 
-start : (b : FunctionBuilder) → b.failed ≡ false → Reaches 0 b b
+start : {R : Type 0} (b : FunctionBuilder R) → b.failed ≡ false → Reaches 0 b b
 start b sound = record {
   loans = loans-stay b;
   sound = sound;
@@ -85,7 +85,7 @@ appended f block shape ty place one = by (stands_in block f.layout) refl
     by true is = entries f refl refl (ap (λ (t : Bool). if t then f else with_layout f block) is)
     by false is = entries (with_layout f block) refl refl (ap (λ (t : Bool). if t then f else with_layout f block) is)
 
-step : (made block : ℕ) (old b new : FunctionBuilder) (shape : InstructionData) (ty : «Type») (value : ℕ) → old.position ≡ Some block → HasOneResult shape → Reaches made old b
+step : {R : Type 0} (made block : ℕ) (old b new : FunctionBuilder R) (shape : InstructionData) (ty : «Type») (value : ℕ) → old.position ≡ Some block → HasOneResult shape → Reaches made old b
     → BuildsValue b new shape ty (Ok value) → Reaches (suc made) old new
 step made block old b new shape ty value at one far built =
     let here : b.position ≡ Some block = far.position ∙ at in
@@ -95,7 +95,7 @@ step made block old b new shape ty value at one far built =
     let more_insts : length new.func.now.insts ≡ length b.func.now.insts + 1 = ap (λ (g : Body). length g.insts) appends.0.function ∙ counts.0 in
     let more_values : length new.func.now.values ≡ length b.func.now.values + 1 = ap (λ (g : Body). length g.values) appends.0.function ∙ counts.1 in
     record {
-      loans = record { func = built.loans.func ∙ far.loans.func; ctx = built.loans.ctx ∙ far.loans.ctx };
+      loans = record { func = built.loans.func ∙ far.loans.func; ctx = built.loans.ctx ∙ far.loans.ctx; region = built.loans.region ∙ far.loans.region };
       sound = built.fails;
       variables = built.variables ∙ far.variables;
       name = built.grows.3 ∙ far.name;
@@ -116,9 +116,9 @@ one-shape : (called : ImmediateCall) (x constant : ℕ) → HasOneResult (shape_
 one-shape (immediate.IaddImmS y imm) x constant tables ty = refl
 one-shape (immediate.IcmpImmS cond y imm) x constant tables ty = refl
 
-module _ (old : FunctionBuilder) (block : ℕ) (at : old.position ≡ Some block) (sound : old.failed ≡ false) (ty : «Type») (imm : ℤ) where
+module _ {R : Type 0} (old : FunctionBuilder R) (block : ℕ) (at : old.position ≡ Some block) (sound : old.failed ≡ false) (ty : «Type») (imm : ℤ) where
   -- a constant is one instruction or two
-  constant-made : (new : FunctionBuilder) (value : ℕ) → BuildsConstant BuildsValue ty imm old new (Ok value) → (made : ℕ) × (made < 3) × Reaches made old new
+  constant-made : (new : FunctionBuilder R) (value : ℕ) → BuildsConstant BuildsValue ty imm old new (Ok value) → (made : ℕ) × (made < 3) × Reaches made old new
   constant-made new value (inl (wide, inl (first, narrow, builds, widens))) = (
     2,
     omega arith,
@@ -128,7 +128,7 @@ module _ (old : FunctionBuilder) (block : ℕ) (at : old.position ≡ Some block
   constant-made new value (inl (wide, inr (error, failed, is))) = no-success value error is
   constant-made new value (inr (narrow, builds)) = (1, omega arith, step 0 block old old new (unary_imm imm) ty value at (λ tables t. refl) (start old sound) builds)
 
-  constant-failed : (new : FunctionBuilder) (error : BuildError) → BuildsConstant BuildsValue ty imm old new (Err error) → FailsBehind old new error
+  constant-failed : (new : FunctionBuilder R) (error : BuildError) → BuildsConstant BuildsValue ty imm old new (Err error) → FailsBehind old new error
   constant-failed new error (inl (wide, inl (first, narrow, builds, widens))) = record {
     between = first;
     made = 1;
@@ -144,7 +144,7 @@ module _ (old : FunctionBuilder) (block : ℕ) (at : old.position ≡ Some block
   constant-failed new error (inr (narrow, builds)) =
       record { between = old; made = 0; few = omega arith; reaches = start old sound; shape = unary_imm imm; ty = ty; built = builds }
 
-module _ (called : ImmediateCall) (x : ℕ) (old new : FunctionBuilder) (block : ℕ) (at : old.position ≡ Some block) (sound : old.failed ≡ false) where
+module _ {R : Type 0} (called : ImmediateCall) (x : ℕ) (old new : FunctionBuilder R) (block : ℕ) (at : old.position ≡ Some block) (sound : old.failed ≡ false) where
   pub emission-made : (value : ℕ) → BuildsEmission called x old new (Ok value) → (made : ℕ) × Reaches made old new
   emission-made value (inl (between, constant, first, last)) =
       let far = constant-made old block at sound (type_in old x) _ between constant first in

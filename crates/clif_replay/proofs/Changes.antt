@@ -30,12 +30,12 @@ stands-same true x xs tells = sym (test-from_Stands x xs (tells.0 refl))
 stands-same false x xs tells = sym (false_from_ne_true (stands_in x xs) (λ there. false≢true (tells.1 (Stands-from_test x xs there))))
 
 -- no instruction
-pub change-no_branch : {naming : Naming} {declared : SignatureShape} (calls : List AnsweredCall) (b : FunctionBuilder) (answers : List Answer) → IsReady naming declared calls b answers
+pub change-no_branch : {R : Type 0} {naming : Naming} {declared : SignatureShape} (calls : List AnsweredCall) (b : FunctionBuilder R) (answers : List Answer) → IsReady naming declared calls b answers
     → (branch from to : Name) → inst_of answers branch ≡ None → allows (ledger_of calls) (ChangeJumpDestination (naming branch) (naming from) (naming to)) ≡ false
 change-no_branch calls b answers ready branch from to missing = let none = inst-missing calls b answers ready branch missing in rw none refl
 
 -- no block that it could lead to
-pub change-no_source : {naming : Naming} {declared : SignatureShape} (calls : List AnsweredCall) (b : FunctionBuilder) (answers : List Answer) → IsReady naming declared calls b answers
+pub change-no_source : {R : Type 0} {naming : Naming} {declared : SignatureShape} (calls : List AnsweredCall) (b : FunctionBuilder R) (answers : List Answer) → IsReady naming declared calls b answers
     → (branch from to : Name) → block_of answers from ≡ None → allows (ledger_of calls) (ChangeJumpDestination (naming branch) (naming from) (naming to)) ≡ false
 change-no_source {naming} calls b answers ready branch from to missing =
     by (has_instruction (ledger_of calls) (naming branch)) (leads_to (ledger_of calls) (naming branch) (naming from)) (is_sealed (ledger_of calls) (naming from))
@@ -48,7 +48,7 @@ change-no_source {naming} calls b answers ready branch from to missing =
     by false leads closed has full is = refl
 
 -- no block that it is to lead to
-pub change-no_target : {naming : Naming} {declared : SignatureShape} (calls : List AnsweredCall) (b : FunctionBuilder) (answers : List Answer) → IsReady naming declared calls b answers
+pub change-no_target : {R : Type 0} {naming : Naming} {declared : SignatureShape} (calls : List AnsweredCall) (b : FunctionBuilder R) (answers : List Answer) → IsReady naming declared calls b answers
     → (branch from to : Name) → block_of answers to ≡ None → allows (ledger_of calls) (ChangeJumpDestination (naming branch) (naming from) (naming to)) ≡ false
 change-no_target {naming} calls b answers ready branch from to missing =
     by (has_instruction (ledger_of calls) (naming branch)) (leads_to (ledger_of calls) (naming branch) (naming from)) (is_sealed (ledger_of calls) (naming from))
@@ -60,14 +60,14 @@ change-no_target {naming} calls b answers ready branch from to missing =
     by true false closed has full is = refl
     by false leads closed has full is = refl
 
-pub change-some : LeadsAreReadByNumber → {naming : Naming} {declared : SignatureShape} (calls : List AnsweredCall) (b : FunctionBuilder) (answers : List Answer) → IsReady naming declared calls b answers
+pub change-some : {R : Type 0} → LeadsAreReadByNumber → {naming : Naming} {declared : SignatureShape} (calls : List AnsweredCall) (b : FunctionBuilder R) (answers : List Answer) → IsReady naming declared calls b answers
     → (branch from to : Name) (inst source target : ℕ) → inst_of answers branch ≡ Some inst → block_of answers from ≡ Some source → block_of answers to ≡ Some target
     → allows (ledger_of calls) (ChangeJumpDestination (naming branch) (naming from) (naming to)) ≡ can_change b inst source target
 change-some law {naming} {declared} calls b answers ready branch from to inst source target found_branch found_from found_to =
     by (has_instruction (ledger_of calls) (naming branch)) (leads_to (ledger_of calls) (naming branch) (naming from)) (is_sealed (ledger_of calls) (naming from))
     (has_block (ledger_of calls) (naming to)) (is_sealed (ledger_of calls) (naming to))
-    (stands_in inst (predecessors_of b.ctx.now.ssa source)) (is_yes (sealed_of b.ctx.now.ssa source)) (is_yes (sealed_of b.ctx.now.ssa target))
-    names_branch.is_instruction (law declared calls b (naming branch) (naming from) inst source ready.stands names_branch names_from)
+    (stands_in inst (predecessors_of b.ctx.now.parts.ssa source)) (is_yes (sealed_of b.ctx.now.parts.ssa source)) (is_yes (sealed_of b.ctx.now.parts.ssa target))
+    names_branch.is_instruction (law declared calls b.func.now b.ctx.now.parts b.position (naming branch) (naming from) inst source ready.stands names_branch names_from)
     (sealed-same calls b answers ready (naming from) source ((read calls b answers ready).named (naming from) source names_from))
     names_to.is_block
     (sealed-same calls b answers ready (naming to) target ((read calls b answers ready).named (naming to) target names_to))
@@ -91,17 +91,17 @@ change-some law {naming} {declared} calls b answers ready branch from to inst so
     by there leads closed has full l s t one two three four five = rw (one, two, three, four, five) (cases l s t)
 
 -- what the tests tell where the branch may be changed
-pub record MayChange (b : FunctionBuilder) (inst source target : ℕ) : Type 0 where
-  pub leads : Stands inst (predecessors_of b.ctx.now.ssa source)
-  pub source_open : is_yes (sealed_of b.ctx.now.ssa source) ≡ false
-  pub target_open : is_yes (sealed_of b.ctx.now.ssa target) ≡ false
+pub record MayChange {R : Type 0} (b : FunctionBuilder R) (inst source target : ℕ) : Type 0 where
+  pub leads : Stands inst (predecessors_of b.ctx.now.parts.ssa source)
+  pub source_open : is_yes (sealed_of b.ctx.now.parts.ssa source) ≡ false
+  pub target_open : is_yes (sealed_of b.ctx.now.parts.ssa target) ≡ false
 
-pub may-change : (b : FunctionBuilder) (inst source target : ℕ) → can_change b inst source target ≡ true → MayChange b inst source target
+pub may-change : {R : Type 0} (b : FunctionBuilder R) (inst source target : ℕ) → can_change b inst source target ≡ true → MayChange b inst source target
 may-change b inst source target may =
-    let both = and_parts (stands_in inst (predecessors_of b.ctx.now.ssa source) && can_seal b source) (can_seal b target) may in
-    let first = and_parts (stands_in inst (predecessors_of b.ctx.now.ssa source)) (can_seal b source) both.0 in
+    let both = and_parts (stands_in inst (predecessors_of b.ctx.now.parts.ssa source) && can_seal b source) (can_seal b target) may in
+    let first = and_parts (stands_in inst (predecessors_of b.ctx.now.parts.ssa source)) (can_seal b source) both.0 in
     record {
-      leads = Stands-from_test inst (predecessors_of b.ctx.now.ssa source) first.0;
-      source_open = not-true (is_yes (sealed_of b.ctx.now.ssa source)) first.1;
-      target_open = not-true (is_yes (sealed_of b.ctx.now.ssa target)) both.1;
+      leads = Stands-from_test inst (predecessors_of b.ctx.now.parts.ssa source) first.0;
+      source_open = not-true (is_yes (sealed_of b.ctx.now.parts.ssa source)) first.1;
+      target_open = not-true (is_yes (sealed_of b.ctx.now.parts.ssa target)) both.1;
     }

@@ -43,20 +43,20 @@ use Rattle.clif_replay.proofs.Options.{name-of-none, name-of-some, some-is}
 use Rattle.clif_replay.proofs.ReadyLaws.{block-found, block-missing, block-there, read, value-exists, value-found, value-missing}
 use Rattle.clif_resolution.proofs.Found.{passed-values}
 
-filled-same : {naming : Naming} {declared : SignatureShape} (calls : List AnsweredCall) (b : FunctionBuilder) (answers : List Answer) → IsReady naming declared calls b answers
-    → (name : meaning.Name) (block : ℕ) → block_name (ledger_of calls) block ≡ Some name → is_filled (ledger_of calls) name ≡ is_filled_status (status_of b.ctx.now block)
+filled-same : {R : Type 0} {naming : Naming} {declared : SignatureShape} (calls : List AnsweredCall) (b : FunctionBuilder R) (answers : List Answer) → IsReady naming declared calls b answers
+    → (name : meaning.Name) (block : ℕ) → block_name (ledger_of calls) block ≡ Some name → is_filled (ledger_of calls) name ≡ is_filled_status (status_of b.ctx.now.parts block)
 filled-same calls b answers ready name block named =
     let s = (read calls b answers ready).state block name named in
     ap (state_has (λ (state : BlockState). state.is_filled)) s.found ∙ s.agrees.is_filled
 
-pristine-same : {naming : Naming} {declared : SignatureShape} (calls : List AnsweredCall) (b : FunctionBuilder) (answers : List Answer) → IsReady naming declared calls b answers
-    → (name : meaning.Name) (block : ℕ) → block_name (ledger_of calls) block ≡ Some name → is_pristine (ledger_of calls) name ≡ is_empty_status (status_of b.ctx.now block)
+pristine-same : {R : Type 0} {naming : Naming} {declared : SignatureShape} (calls : List AnsweredCall) (b : FunctionBuilder R) (answers : List Answer) → IsReady naming declared calls b answers
+    → (name : meaning.Name) (block : ℕ) → block_name (ledger_of calls) block ≡ Some name → is_pristine (ledger_of calls) name ≡ is_empty_status (status_of b.ctx.now.parts block)
 pristine-same calls b answers ready name block named =
     let s = (read calls b answers ready).state block name named in
     ap (state_has (λ (state : BlockState). state.is_pristine)) s.found ∙ s.agrees.is_pristine
 
-pub sealed-same : {naming : Naming} {declared : SignatureShape} (calls : List AnsweredCall) (b : FunctionBuilder) (answers : List Answer) → IsReady naming declared calls b answers
-    → (name : meaning.Name) (block : ℕ) → block_name (ledger_of calls) block ≡ Some name → is_sealed (ledger_of calls) name ≡ is_yes (sealed_of b.ctx.now.ssa block)
+pub sealed-same : {R : Type 0} {naming : Naming} {declared : SignatureShape} (calls : List AnsweredCall) (b : FunctionBuilder R) (answers : List Answer) → IsReady naming declared calls b answers
+    → (name : meaning.Name) (block : ℕ) → block_name (ledger_of calls) block ≡ Some name → is_sealed (ledger_of calls) name ≡ is_yes (sealed_of b.ctx.now.parts.ssa block)
 sealed-same calls b answers ready name block named =
     let s = (read calls b answers ready).state block name named in
     ap (state_has (λ (state : BlockState). state.is_sealed)) s.found ∙ s.agrees.is_sealed
@@ -68,27 +68,27 @@ same-empty calls [] (k ∷ numbers) same = let no_way : ⊥ = cc in absurd no_wa
 same-empty calls (name ∷ names) [] same = let no_way : ⊥ = cc in absurd no_way
 same-empty calls (name ∷ names) (k ∷ numbers) same = refl
 
-predecessors-same : {naming : Naming} {declared : SignatureShape} (calls : List AnsweredCall) (b : FunctionBuilder) (answers : List Answer) → IsReady naming declared calls b answers
+predecessors-same : {R : Type 0} {naming : Naming} {declared : SignatureShape} (calls : List AnsweredCall) (b : FunctionBuilder R) (answers : List Answer) → IsReady naming declared calls b answers
     → (name : meaning.Name) (block : ℕ) → block_name (ledger_of calls) block ≡ Some name
-    → has_predecessors (ledger_of calls) name ≡ not (is_nothing (predecessors_of b.ctx.now.ssa block))
+    → has_predecessors (ledger_of calls) name ≡ not (is_nothing (predecessors_of b.ctx.now.parts.ssa block))
 predecessors-same calls b answers ready name block named =
     let s = (read calls b answers ready).state block name named in
     ap (state_has (λ (state : BlockState). not (is_empty state.predecessors))) s.found
-    ∙ ap not (same-empty calls s.state.predecessors (predecessors_of b.ctx.now.ssa block) s.agrees.predecessors)
+    ∙ ap not (same-empty calls s.state.predecessors (predecessors_of b.ctx.now.parts.ssa block) s.agrees.predecessors)
 
 -- there is a current block that isn't filled
-pub open-same : {naming : Naming} {declared : SignatureShape} (calls : List AnsweredCall) (b : FunctionBuilder) (answers : List Answer) → IsReady naming declared calls b answers
+pub open-same : {R : Type 0} {naming : Naming} {declared : SignatureShape} (calls : List AnsweredCall) (b : FunctionBuilder R) (answers : List Answer) → IsReady naming declared calls b answers
     → acceptance.is_open (ledger_of calls) (ledger_of calls).current ≡ is_open b
 open-same calls b answers ready = by b.position refl
   where
     by : (p : Option ℕ) → b.position ≡ p → acceptance.is_open (ledger_of calls) (ledger_of calls).current ≡ is_open b
     by None at =
         let none : (ledger_of calls).current ≡ None = name-of-none (block_name (ledger_of calls)) (ledger_of calls).current (ready.stands.ledger.current ∙ ap (option_map (block_name (ledger_of calls))) at) in
-        ap (acceptance.is_open (ledger_of calls)) none ∙ ap (λ (o : Option ℕ). is_open_at o b.ctx.now) (sym at)
+        ap (acceptance.is_open (ledger_of calls)) none ∙ ap (λ (o : Option ℕ). is_open_at o b.ctx.now.parts) (sym at)
     by (Some block) at =
         let current = name-of-some (block_name (ledger_of calls)) (ledger_of calls).current block (ready.stands.ledger.current ∙ ap (option_map (block_name (ledger_of calls))) at) in
         ap (acceptance.is_open (ledger_of calls)) current.1 ∙ ap not (filled-same calls b answers ready current.0 block current.2)
-        ∙ ap (λ (o : Option ℕ). is_open_at o b.ctx.now) (sym at)
+        ∙ ap (λ (o : Option ℕ). is_open_at o b.ctx.now.parts) (sym at)
 
 -- the first block of the layout, by name and by number
 elsewhere-same : (ledger : Ledger) (block : ℕ) (name : meaning.Name) → ((k : ℕ) (x : meaning.Name) → block_name ledger k ≡ Some x → meaning.same_name x name ≡ (k == block))
@@ -102,7 +102,7 @@ elsewhere-same ledger block name test (x ∷ names) (k ∷ numbers) same =
     ap not (test k x here)
 
 -- whether the current block may be left
-pub leave-same : {naming : Naming} {declared : SignatureShape} (calls : List AnsweredCall) (b : FunctionBuilder) (answers : List Answer) → IsReady naming declared calls b answers
+pub leave-same : {R : Type 0} {naming : Naming} {declared : SignatureShape} (calls : List AnsweredCall) (b : FunctionBuilder R) (answers : List Answer) → IsReady naming declared calls b answers
     → can_leave (ledger_of calls) (ledger_of calls).current ≡ is_free b
 leave-same calls b answers ready = by b.position refl
   where
@@ -124,7 +124,7 @@ leave-same calls b answers ready = by b.position refl
     by : (p : Option ℕ) → b.position ≡ p → can_leave (ledger_of calls) (ledger_of calls).current ≡ is_free b
     by None at =
         let none : (ledger_of calls).current ≡ None = name-of-none (block_name (ledger_of calls)) (ledger_of calls).current (ready.stands.ledger.current ∙ ap (option_map (block_name (ledger_of calls))) at) in
-        ap (can_leave (ledger_of calls)) none ∙ ap (λ (o : Option ℕ). is_free_at o b.func.now b.ctx.now) (sym at)
+        ap (can_leave (ledger_of calls)) none ∙ ap (λ (o : Option ℕ). is_free_at o b.func.now b.ctx.now.parts) (sym at)
     by (Some block) at =
         let current = name-of-some (block_name (ledger_of calls)) (ledger_of calls).current block (ready.stands.ledger.current ∙ ap (option_map (block_name (ledger_of calls))) at) in
         let filled = filled-same calls b answers ready current.0 block current.2 in
@@ -133,15 +133,15 @@ leave-same calls b answers ready = by b.position refl
         let alone = predecessors-same calls b answers ready current.0 block current.2 in
         let away = elsewhere-same (ledger_of calls) block current.0 (λ k x here. (read calls b answers ready).same k block x current.0 here current.2) (ledger_of calls).layout b.func.now.layout ready.stands.ledger.layout in
         ap (can_leave (ledger_of calls)) current.1
-        ∙ rw (filled, pristine, sealed, alone, away) (cases (is_elsewhere b.func.now.layout block) (is_yes (sealed_of b.ctx.now.ssa block)) (is_nothing (predecessors_of b.ctx.now.ssa block)) (status_of b.ctx.now block))
-        ∙ ap (λ (o : Option ℕ). is_free_at o b.func.now b.ctx.now) (sym at)
+        ∙ rw (filled, pristine, sealed, alone, away) (cases (is_elsewhere b.func.now.layout block) (is_yes (sealed_of b.ctx.now.parts.ssa block)) (is_nothing (predecessors_of b.ctx.now.parts.ssa block)) (status_of b.ctx.now.parts block))
+        ∙ ap (λ (o : Option ℕ). is_free_at o b.func.now b.ctx.now.parts) (sym at)
 
 -- `switch_to_block`
-pub switch-none : {naming : Naming} {declared : SignatureShape} (calls : List AnsweredCall) (b : FunctionBuilder) (answers : List Answer) → IsReady naming declared calls b answers
+pub switch-none : {R : Type 0} {naming : Naming} {declared : SignatureShape} (calls : List AnsweredCall) (b : FunctionBuilder R) (answers : List Answer) → IsReady naming declared calls b answers
     → (name : Name) → block_of answers name ≡ None → allows (ledger_of calls) (SwitchToBlock (naming name)) ≡ false
 switch-none calls b answers ready name missing = let none = block-missing calls b answers ready name missing in rw none refl
 
-pub switch-some : {naming : Naming} {declared : SignatureShape} (calls : List AnsweredCall) (b : FunctionBuilder) (answers : List Answer) → IsReady naming declared calls b answers
+pub switch-some : {R : Type 0} {naming : Naming} {declared : SignatureShape} (calls : List AnsweredCall) (b : FunctionBuilder R) (answers : List Answer) → IsReady naming declared calls b answers
     → (name : Name) (block : ℕ) → block_of answers name ≡ Some block → allows (ledger_of calls) (SwitchToBlock (naming name)) ≡ can_switch b block
 switch-some {naming} calls b answers ready name block found =
     let names = block-found calls b answers ready name block found in
@@ -152,11 +152,11 @@ switch-some {naming} calls b answers ready name block found =
     rw (there, filled, leaves) refl
 
 -- `seal_block`
-pub seal-none : {naming : Naming} {declared : SignatureShape} (calls : List AnsweredCall) (b : FunctionBuilder) (answers : List Answer) → IsReady naming declared calls b answers
+pub seal-none : {R : Type 0} {naming : Naming} {declared : SignatureShape} (calls : List AnsweredCall) (b : FunctionBuilder R) (answers : List Answer) → IsReady naming declared calls b answers
     → (name : Name) → block_of answers name ≡ None → allows (ledger_of calls) (SealBlock (naming name)) ≡ false
 seal-none calls b answers ready name missing = let none = block-missing calls b answers ready name missing in rw none refl
 
-pub seal-some : {naming : Naming} {declared : SignatureShape} (calls : List AnsweredCall) (b : FunctionBuilder) (answers : List Answer) → IsReady naming declared calls b answers
+pub seal-some : {R : Type 0} {naming : Naming} {declared : SignatureShape} (calls : List AnsweredCall) (b : FunctionBuilder R) (answers : List Answer) → IsReady naming declared calls b answers
     → (name : Name) (block : ℕ) → block_of answers name ≡ Some block → allows (ledger_of calls) (SealBlock (naming name)) ≡ can_seal b block
 seal-some {naming} calls b answers ready name block found =
     let names = block-found calls b answers ready name block found in
@@ -175,12 +175,12 @@ empty-is Empty is = refl
 empty-is Partial is = let no_way : ⊥ = cc in absurd no_way
 empty-is Filled is = let no_way : ⊥ = cc in absurd no_way
 
-pub append-none : {naming : Naming} {declared : SignatureShape} (calls : List AnsweredCall) (b : FunctionBuilder) (answers : List Answer) → IsReady naming declared calls b answers
+pub append-none : {R : Type 0} {naming : Naming} {declared : SignatureShape} (calls : List AnsweredCall) (b : FunctionBuilder R) (answers : List Answer) → IsReady naming declared calls b answers
     → (name : Name) (types : List «Type») → block_of answers name ≡ None → allows (ledger_of calls) (AppendBlockParams (naming name) types) ≡ false
 append-none {naming} calls b answers ready name types missing =
     no-state (block_state (ledger_of calls) (naming name)) (λ (state : BlockState). state.is_pristine) (block-missing calls b answers ready name missing)
 
-pub append-some : {naming : Naming} {declared : SignatureShape} (calls : List AnsweredCall) (b : FunctionBuilder) (answers : List Answer) → IsReady naming declared calls b answers
+pub append-some : {R : Type 0} {naming : Naming} {declared : SignatureShape} (calls : List AnsweredCall) (b : FunctionBuilder R) (answers : List Answer) → IsReady naming declared calls b answers
     → (name : Name) (block : ℕ) (types : List «Type») → block_of answers name ≡ Some block → allows (ledger_of calls) (AppendBlockParams (naming name) types) ≡ can_append b block
 append-some {naming} calls b answers ready name block types found =
     let names = block-found calls b answers ready name block found in
@@ -198,12 +198,12 @@ pub nothing-is : (branches : List ℕ) → is_nothing branches ≡ true → bran
 nothing-is [] is = refl
 nothing-is (branch ∷ branches) is = absurd (false≢true is)
 
-pub function-params-none : {naming : Naming} {declared : SignatureShape} (calls : List AnsweredCall) (b : FunctionBuilder) (answers : List Answer) → IsReady naming declared calls b answers
+pub function-params-none : {R : Type 0} {naming : Naming} {declared : SignatureShape} (calls : List AnsweredCall) (b : FunctionBuilder R) (answers : List Answer) → IsReady naming declared calls b answers
     → (name : Name) (types : List «Type») → block_of answers name ≡ None → allows (ledger_of calls) (AppendFunctionParams (naming name) types) ≡ false
 function-params-none {naming} calls b answers ready name types missing =
     ap (λ (test : Bool). test && not (has_predecessors (ledger_of calls) (naming name))) (append-none calls b answers ready name types missing)
 
-pub function-params-some : {naming : Naming} {declared : SignatureShape} (calls : List AnsweredCall) (b : FunctionBuilder) (answers : List Answer) → IsReady naming declared calls b answers
+pub function-params-some : {R : Type 0} {naming : Naming} {declared : SignatureShape} (calls : List AnsweredCall) (b : FunctionBuilder R) (answers : List Answer) → IsReady naming declared calls b answers
     → (name : Name) (block : ℕ) (types : List «Type») → block_of answers name ≡ Some block
     → allows (ledger_of calls) (AppendFunctionParams (naming name) types) ≡ can_append_function_params b block
 function-params-some {naming} calls b answers ready name block types found =
@@ -211,10 +211,10 @@ function-params-some {naming} calls b answers ready name block types found =
     let named = (read calls b answers ready).named (naming name) block names in
     ap (λ (test : Bool). test && not (has_predecessors (ledger_of calls) (naming name))) (append-some calls b answers ready name block types found)
     ∙ ap (λ (test : Bool). can_append b block && not test) (predecessors-same calls b answers ready (naming name) block named)
-    ∙ ap (λ (test : Bool). can_append b block && test) (not-not (is_nothing (predecessors_of b.ctx.now.ssa block)))
+    ∙ ap (λ (test : Bool). can_append b block && test) (not-not (is_nothing (predecessors_of b.ctx.now.parts.ssa block)))
 
 -- an instruction of a pooled constant
-pub pooled-same : {naming : Naming} {declared : SignatureShape} (calls : List AnsweredCall) (b : FunctionBuilder) (answers : List Answer) → IsReady naming declared calls b answers
+pub pooled-same : {R : Type 0} {naming : Naming} {declared : SignatureShape} (calls : List AnsweredCall) (b : FunctionBuilder R) (answers : List Answer) → IsReady naming declared calls b answers
     → (opcode : PooledConstOpcode) (ty : «Type») (bytes : List ℕ) → allows (ledger_of calls) (pooled_const opcode ty bytes) ≡ is_open b && has_bytes opcode ty bytes
 pooled-same calls b answers ready opcode ty bytes =
     let opens = open-same calls b answers ready in
@@ -238,20 +238,20 @@ no-type : (o : Option «Type») → is_some o ≡ false → o ≡ None
 no-type None is = refl
 no-type (Some ty) is = let no_way : ⊥ = cc in absurd no_way
 
-pub define-none : {naming : Naming} {declared : SignatureShape} (calls : List AnsweredCall) (b : FunctionBuilder) (answers : List Answer) → IsReady naming declared calls b answers
+pub define-none : {R : Type 0} {naming : Naming} {declared : SignatureShape} (calls : List AnsweredCall) (b : FunctionBuilder R) (answers : List Answer) → IsReady naming declared calls b answers
     → (variable : ℕ) (name : Name) → value_of b.func.now answers name ≡ None → allows (ledger_of calls) (DefVar variable (naming name)) ≡ false
 define-none {naming} calls b answers ready variable name missing =
     let none : type_of (ledger_of calls) (naming name) ≡ None = no-type (type_of (ledger_of calls) (naming name)) (value-missing calls b answers ready name missing) in
     and_right _ _ (ap (can_assign (variable_type (ledger_of calls) variable)) none ∙ no-value-assigned (variable_type (ledger_of calls) variable))
 
-pub define-undeclared : {naming : Naming} {declared : SignatureShape} (calls : List AnsweredCall) (b : FunctionBuilder) (answers : List Answer) → IsReady naming declared calls b answers
-    → (variable : ℕ) (name : meaning.Name) → slice_get b.ctx.now.variables variable ≡ None → allows (ledger_of calls) (DefVar variable name) ≡ false
+pub define-undeclared : {R : Type 0} {naming : Naming} {declared : SignatureShape} (calls : List AnsweredCall) (b : FunctionBuilder R) (answers : List Answer) → IsReady naming declared calls b answers
+    → (variable : ℕ) (name : meaning.Name) → slice_get b.ctx.now.parts.variables variable ≡ None → allows (ledger_of calls) (DefVar variable name) ≡ false
 define-undeclared calls b answers ready variable name missing =
     let none : variable_type (ledger_of calls) variable ≡ None = (read calls b answers ready).variable variable ∙ missing in
     and_right _ _ (ap (λ (o : Option «Type»). can_assign o (type_of (ledger_of calls) name)) none ∙ no-variable-assigned (type_of (ledger_of calls) name))
 
 -- the ledger's type of a value is the function's
-pub value-type-same : {naming : Naming} {declared : SignatureShape} (calls : List AnsweredCall) (b : FunctionBuilder) (answers : List Answer) → IsReady naming declared calls b answers
+pub value-type-same : {R : Type 0} {naming : Naming} {declared : SignatureShape} (calls : List AnsweredCall) (b : FunctionBuilder R) (answers : List Answer) → IsReady naming declared calls b answers
     → (name : Name) (value : ℕ) → value_of b.func.now answers name ≡ Some value → type_of (ledger_of calls) (naming name) ≡ Some (value_at b.func.now value).ty
 value-type-same {naming} calls b answers ready name value found =
     let names = value-found calls b answers ready name value found in
@@ -259,8 +259,8 @@ value-type-same {naming} calls b answers ready name value found =
     let node = map-some (λ (n : ValueNode). n.ty) (slice_get b.func.now.values value) typed.0 typed.2 in
     typed.1 ∙ ap Some (sym (ap (λ (n : ValueNode). n.ty) (get_or_from_slice_get b.func.now.values value node.0 no_value node.1) ∙ node.2))
 
-pub define-some : {naming : Naming} {declared : SignatureShape} (calls : List AnsweredCall) (b : FunctionBuilder) (answers : List Answer) → IsReady naming declared calls b answers
-    → (variable : ℕ) (name : Name) (value : ℕ) (ty : «Type») → value_of b.func.now answers name ≡ Some value → slice_get b.ctx.now.variables variable ≡ Some ty
+pub define-some : {R : Type 0} {naming : Naming} {declared : SignatureShape} (calls : List AnsweredCall) (b : FunctionBuilder R) (answers : List Answer) → IsReady naming declared calls b answers
+    → (variable : ℕ) (name : Name) (value : ℕ) (ty : «Type») → value_of b.func.now answers name ≡ Some value → slice_get b.ctx.now.parts.variables variable ≡ Some ty
     → allows (ledger_of calls) (DefVar variable (naming name)) ≡ can_define b ty value
 define-some calls b answers ready variable name value ty found declared =
     let opens = open-same calls b answers ready in
@@ -269,15 +269,15 @@ define-some calls b answers ready variable name value ty found declared =
     rw (opens, of_variable, of_value) refl
 
 -- `use_var`
-pub use-same : {naming : Naming} {declared : SignatureShape} (calls : List AnsweredCall) (b : FunctionBuilder) (answers : List Answer) → IsReady naming declared calls b answers
-    → (variable : ℕ) → allows (ledger_of calls) (UseVar variable) ≡ can_use b b.ctx.now.variables variable
+pub use-same : {R : Type 0} {naming : Naming} {declared : SignatureShape} (calls : List AnsweredCall) (b : FunctionBuilder R) (answers : List Answer) → IsReady naming declared calls b answers
+    → (variable : ℕ) → allows (ledger_of calls) (UseVar variable) ≡ can_use b b.ctx.now.parts.variables variable
 use-same calls b answers ready variable =
     let opens = open-same calls b answers ready in
     let of_variable = (read calls b answers ready).variable variable in
     rw (opens, of_variable) refl
 
 -- the values that names lead to are there
-pub values-same : {naming : Naming} {declared : SignatureShape} (calls : List AnsweredCall) (b : FunctionBuilder) (answers : List Answer) → IsReady naming declared calls b answers
+pub values-same : {R : Type 0} {naming : Naming} {declared : SignatureShape} (calls : List AnsweredCall) (b : FunctionBuilder R) (answers : List Answer) → IsReady naming declared calls b answers
     → (names : List Name) → list_all (has_value (ledger_of calls)) (map naming names) ≡ all_values b.func.now answers names
 values-same {naming} calls b answers ready [] = refl
 values-same {naming} calls b answers ready (name ∷ names) =
@@ -290,7 +290,7 @@ values-same {naming} calls b answers ready (name ∷ names) =
     by (Some value) is = (value-found calls b answers ready name value is).is_value ∙ ap is_some (sym is)
 
 -- a current block that isn't filled
-pub has-current : {naming : Naming} {declared : SignatureShape} (calls : List AnsweredCall) (b : FunctionBuilder) (answers : List Answer) → IsReady naming declared calls b answers → is_open b ≡ true → HasCurrent b
+pub has-current : {R : Type 0} {naming : Naming} {declared : SignatureShape} (calls : List AnsweredCall) (b : FunctionBuilder R) (answers : List Answer) → IsReady naming declared calls b answers → is_open b ≡ true → HasCurrent b
 has-current calls b answers ready opens = by b.position refl opens
   where
     not_filled : (s : BlockStatus) → not (is_filled_status s) ≡ true → s ≢ Filled
@@ -298,14 +298,14 @@ has-current calls b answers ready opens = by b.position refl opens
     not_filled Partial is same = let no_way : ⊥ = cc in absurd no_way
     not_filled Filled is same = let no_way : ⊥ = cc in absurd no_way
 
-    by : (p : Option ℕ) → b.position ≡ p → is_open_at p b.ctx.now ≡ true → HasCurrent b
+    by : (p : Option ℕ) → b.position ≡ p → is_open_at p b.ctx.now.parts ≡ true → HasCurrent b
     by None at is = let no_way : ⊥ = cc in absurd no_way
     by (Some block) at is =
         let current = name-of-some (block_name (ledger_of calls)) (ledger_of calls).current block (ready.stands.ledger.current ∙ ap (option_map (block_name (ledger_of calls))) at) in
-        (block, at, (read calls b answers ready).exists block current.0 current.2, not_filled (status_of b.ctx.now block) is)
+        (block, at, (read calls b answers ready).exists block current.0 current.2, not_filled (status_of b.ctx.now.parts block) is)
 
 -- the values that names lead to exist, and have the names' numbers
-pub all-exist : {naming : Naming} {declared : SignatureShape} (calls : List AnsweredCall) (b : FunctionBuilder) (answers : List Answer) → IsReady naming declared calls b answers
+pub all-exist : {R : Type 0} {naming : Naming} {declared : SignatureShape} (calls : List AnsweredCall) (b : FunctionBuilder R) (answers : List Answer) → IsReady naming declared calls b answers
     → (names : List Name) (values : List ℕ) → map (value_of b.func.now answers) names ≡ map Some values
     → (k : ℕ) → k < length values → slice_index values k < length b.func.now.values
 all-exist calls b answers ready [] [] found k inside = absurd (omega (arith, inside))
@@ -316,7 +316,7 @@ all-exist calls b answers ready (name ∷ names) (value ∷ values) found zero i
 all-exist calls b answers ready (name ∷ names) (value ∷ values) found (suc k) inside =
     let rest : map (value_of b.func.now answers) names ≡ map Some values = cc in all-exist calls b answers ready names values rest k (omega (arith, inside))
 
-pub all-named : {naming : Naming} {declared : SignatureShape} (calls : List AnsweredCall) (b : FunctionBuilder) (answers : List Answer) → IsReady naming declared calls b answers
+pub all-named : {R : Type 0} {naming : Naming} {declared : SignatureShape} (calls : List AnsweredCall) (b : FunctionBuilder R) (answers : List Answer) → IsReady naming declared calls b answers
     → (names : List Name) (values : List ℕ) → map (value_of b.func.now answers) names ≡ map Some values → NamesValues calls (map naming names) values
 all-named {naming} calls b answers ready [] [] found = record { numbers = refl; are_values = tt }
 all-named {naming} calls b answers ready [] (value ∷ values) found = let no_way : ⊥ = cc in absurd no_way
@@ -332,7 +332,7 @@ all-named {naming} calls b answers ready (name ∷ names) (value ∷ values) fou
     }
 
 -- a variable that may be used was declared
-pub declared-there : (b : FunctionBuilder) (types variables : List «Type») (variable : ℕ) → types ≡ variables → can_use b types variable ≡ true → variable < length variables
+pub declared-there : {R : Type 0} (b : FunctionBuilder R) (types variables : List «Type») (variable : ℕ) → types ≡ variables → can_use b types variable ≡ true → variable < length variables
 declared-there b types variables variable same holds =
     let parts = and_parts (is_open b) (is_some (slice_get types variable)) holds in
     let entry = some-is (slice_get types variable) parts.1 in
@@ -346,7 +346,7 @@ same_from_iff false a b tells = sym (false_from_ne_true (same_type a b) (λ same
 -- TRYING ----------------------------------------------------------------------------------------------------------
 
 -- `try_use_var`
-pub try-use-closed : {naming : Naming} {declared : SignatureShape} (calls : List AnsweredCall) (b : FunctionBuilder) (answers : List Answer) → IsReady naming declared calls b answers
+pub try-use-closed : {R : Type 0} {naming : Naming} {declared : SignatureShape} (calls : List AnsweredCall) (b : FunctionBuilder R) (answers : List Answer) → IsReady naming declared calls b answers
     → (variable : ℕ) → is_open b ≡ false → (allows (ledger_of calls) (UseVar variable) ≡ false) × (blames_variable (ledger_of calls) (UseVar variable) ≡ false)
 try-use-closed calls b answers ready variable closed =
     let opens = open-same calls b answers ready ∙ closed in (
@@ -354,8 +354,8 @@ try-use-closed calls b answers ready variable closed =
       ap (λ (test : Bool). test && not (is_some (variable_type (ledger_of calls) variable))) opens,
     )
 
-pub try-use-undeclared : {naming : Naming} {declared : SignatureShape} (calls : List AnsweredCall) (b : FunctionBuilder) (answers : List Answer) → IsReady naming declared calls b answers
-    → (variable : ℕ) → is_open b ≡ true → slice_get b.ctx.now.variables variable ≡ None
+pub try-use-undeclared : {R : Type 0} {naming : Naming} {declared : SignatureShape} (calls : List AnsweredCall) (b : FunctionBuilder R) (answers : List Answer) → IsReady naming declared calls b answers
+    → (variable : ℕ) → is_open b ≡ true → slice_get b.ctx.now.parts.variables variable ≡ None
     → (allows (ledger_of calls) (UseVar variable) ≡ false) × (blames_variable (ledger_of calls) (UseVar variable) ≡ true)
 try-use-undeclared calls b answers ready variable here none =
     let opens = open-same calls b answers ready ∙ here in
@@ -365,14 +365,14 @@ try-use-undeclared calls b answers ready variable here none =
     )
 
 -- a variable that is declared may be used
-pub use-declared : {naming : Naming} {declared : SignatureShape} (calls : List AnsweredCall) (b : FunctionBuilder) (answers : List Answer) → IsReady naming declared calls b answers
-    → (variable : ℕ) → is_open b ≡ true → variable < length b.ctx.now.variables → allows (ledger_of calls) (UseVar variable) ≡ true
+pub use-declared : {R : Type 0} {naming : Naming} {declared : SignatureShape} (calls : List AnsweredCall) (b : FunctionBuilder R) (answers : List Answer) → IsReady naming declared calls b answers
+    → (variable : ℕ) → is_open b ≡ true → variable < length b.ctx.now.parts.variables → allows (ledger_of calls) (UseVar variable) ≡ true
 use-declared calls b answers ready variable here declared =
-    let ty = get-below b.ctx.now.variables variable declared in
-    use-same calls b answers ready variable ∙ and_from (is_open b) (is_some (slice_get b.ctx.now.variables variable)) here (ap is_some ty.1)
+    let ty = get-below b.ctx.now.parts.variables variable declared in
+    use-same calls b answers ready variable ∙ and_from (is_open b) (is_some (slice_get b.ctx.now.parts.variables variable)) here (ap is_some ty.1)
 
 -- `try_def_var`
-pub try-define-none : {naming : Naming} {declared : SignatureShape} (calls : List AnsweredCall) (b : FunctionBuilder) (answers : List Answer) → IsReady naming declared calls b answers
+pub try-define-none : {R : Type 0} {naming : Naming} {declared : SignatureShape} (calls : List AnsweredCall) (b : FunctionBuilder R) (answers : List Answer) → IsReady naming declared calls b answers
     → (variable : ℕ) (name : Name) → value_of b.func.now answers name ≡ None
     → (allows (ledger_of calls) (DefVar variable (naming name)) ≡ false) × (blames_variable (ledger_of calls) (DefVar variable (naming name)) ≡ false)
 try-define-none {naming} calls b answers ready variable name missing =
@@ -382,7 +382,7 @@ try-define-none {naming} calls b answers ready variable name missing =
           (and_right (acceptance.is_open (ledger_of calls) (ledger_of calls).current) (has_value (ledger_of calls) (naming name)) none),
     )
 
-pub try-define-closed : {naming : Naming} {declared : SignatureShape} (calls : List AnsweredCall) (b : FunctionBuilder) (answers : List Answer) → IsReady naming declared calls b answers
+pub try-define-closed : {R : Type 0} {naming : Naming} {declared : SignatureShape} (calls : List AnsweredCall) (b : FunctionBuilder R) (answers : List Answer) → IsReady naming declared calls b answers
     → (variable : ℕ) (name : Name) → is_open b ≡ false
     → (allows (ledger_of calls) (DefVar variable (naming name)) ≡ false) × (blames_variable (ledger_of calls) (DefVar variable (naming name)) ≡ false)
 try-define-closed {naming} calls b answers ready variable name closed =
@@ -397,8 +397,8 @@ mistyped-assigned : (o : Option «Type») (ty : «Type») → o ≢ Some ty → 
 mistyped-assigned None ty other = refl
 mistyped-assigned (Some own) ty other = false_from_ne_true (same_type own ty) (λ same. other (ap Some (type_is own ty same)))
 
-pub try-define-mistyped : {naming : Naming} {declared : SignatureShape} (calls : List AnsweredCall) (b : FunctionBuilder) (answers : List Answer) → IsReady naming declared calls b answers
-    → (variable : ℕ) (name : Name) (value : ℕ) → is_open b ≡ true → value_of b.func.now answers name ≡ Some value → slice_get b.ctx.now.variables variable ≢ Some (value_at b.func.now value).ty
+pub try-define-mistyped : {R : Type 0} {naming : Naming} {declared : SignatureShape} (calls : List AnsweredCall) (b : FunctionBuilder R) (answers : List Answer) → IsReady naming declared calls b answers
+    → (variable : ℕ) (name : Name) (value : ℕ) → is_open b ≡ true → value_of b.func.now answers name ≡ Some value → slice_get b.ctx.now.parts.variables variable ≢ Some (value_at b.func.now value).ty
     → (allows (ledger_of calls) (DefVar variable (naming name)) ≡ false) × (blames_variable (ledger_of calls) (DefVar variable (naming name)) ≡ true)
 try-define-mistyped {naming} calls b answers ready variable name value here found other =
     let opens = open-same calls b answers ready ∙ here in
@@ -406,7 +406,7 @@ try-define-mistyped {naming} calls b answers ready variable name value here foun
     let of_variable = (read calls b answers ready).variable variable in
     let denied : can_assign (variable_type (ledger_of calls) variable) (type_of (ledger_of calls) (naming name)) ≡ false =
     ap (λ (o : Option «Type»). can_assign o (type_of (ledger_of calls) (naming name))) of_variable
-    ∙ ap (can_assign (slice_get b.ctx.now.variables variable)) of_value ∙ mistyped-assigned (slice_get b.ctx.now.variables variable) (value_at b.func.now value).ty other in (
+    ∙ ap (can_assign (slice_get b.ctx.now.parts.variables variable)) of_value ∙ mistyped-assigned (slice_get b.ctx.now.parts.variables variable) (value_at b.func.now value).ty other in (
       ap (λ (test : Bool). test && can_assign (variable_type (ledger_of calls) variable) (type_of (ledger_of calls) (naming name))) opens ∙ denied,
       ap (λ (test : Bool). test && has_value (ledger_of calls) (naming name) && not (can_assign (variable_type (ledger_of calls) variable) (type_of (ledger_of calls) (naming name)))) opens
           ∙ ap (λ (test : Bool). test && not (can_assign (variable_type (ledger_of calls) variable) (type_of (ledger_of calls) (naming name)))) (ap is_some of_value)
@@ -414,8 +414,8 @@ try-define-mistyped {naming} calls b answers ready variable name value here foun
     )
 
 -- a value of the variable's type may be assigned
-pub define-typed : {naming : Naming} {declared : SignatureShape} (calls : List AnsweredCall) (b : FunctionBuilder) (answers : List Answer) → IsReady naming declared calls b answers
-    → (variable : ℕ) (name : Name) (value : ℕ) → is_open b ≡ true → value_of b.func.now answers name ≡ Some value → slice_get b.ctx.now.variables variable ≡ Some (value_at b.func.now value).ty
+pub define-typed : {R : Type 0} {naming : Naming} {declared : SignatureShape} (calls : List AnsweredCall) (b : FunctionBuilder R) (answers : List Answer) → IsReady naming declared calls b answers
+    → (variable : ℕ) (name : Name) (value : ℕ) → is_open b ≡ true → value_of b.func.now answers name ≡ Some value → slice_get b.ctx.now.parts.variables variable ≡ Some (value_at b.func.now value).ty
     → allows (ledger_of calls) (DefVar variable (naming name)) ≡ true
 define-typed calls b answers ready variable name value here found typed =
     let ty : «Type» = (value_at b.func.now value).ty in
@@ -427,7 +427,7 @@ pub arguments-same : (naming : Naming) (ledger : Ledger) (names : List Name) →
 arguments-same naming ledger [] = refl
 arguments-same naming ledger (name ∷ names) = ap (λ (rest : Bool). has_value ledger (naming name) && rest) (arguments-same naming ledger names)
 
-pub target-same : {naming : Naming} {declared : SignatureShape} (calls : List AnsweredCall) (b : FunctionBuilder) (answers : List Answer) → IsReady naming declared calls b answers
+pub target-same : {R : Type 0} {naming : Naming} {declared : SignatureShape} (calls : List AnsweredCall) (b : FunctionBuilder R) (answers : List Answer) → IsReady naming declared calls b answers
     → (name : Name) → (has_block (ledger_of calls) (naming name) && not (is_sealed (ledger_of calls) (naming name))) ≡ is_target b (block_of answers name)
 target-same {naming} calls b answers ready name = by (block_of answers name) refl
   where
@@ -436,7 +436,7 @@ target-same {naming} calls b answers ready name = by (block_of answers name) ref
     by (Some block) at = seal-some calls b answers ready name block at ∙ ap (is_target b) (sym at)
 
 -- an edge may be made in the ledger where it may be made here
-pub lead-same : {naming : Naming} {declared : SignatureShape} (calls : List AnsweredCall) (b : FunctionBuilder) (answers : List Answer) → IsReady naming declared calls b answers
+pub lead-same : {R : Type 0} {naming : Naming} {declared : SignatureShape} (calls : List AnsweredCall) (b : FunctionBuilder R) (answers : List Answer) → IsReady naming declared calls b answers
     → (edge : Edge) → can_lead (ledger_of calls) (edge_of naming edge) ≡ may_lead b answers edge
 lead-same {naming} calls b answers ready edge =
     ap (λ (test : Bool). test && list_all (has_argument (ledger_of calls)) (map (λ name. Known (naming name)) edge.args.items)) (target-same calls b answers ready edge.block)
@@ -444,7 +444,7 @@ lead-same {naming} calls b answers ready edge =
     (arguments-same naming (ledger_of calls) edge.args.items ∙ values-same calls b answers ready edge.args.items)
 
 -- what names lead to is passed
-passed-named : {naming : Naming} {declared : SignatureShape} (calls : List AnsweredCall) (b : FunctionBuilder) (answers : List Answer) → IsReady naming declared calls b answers
+passed-named : {R : Type 0} {naming : Naming} {declared : SignatureShape} (calls : List AnsweredCall) (b : FunctionBuilder R) (answers : List Answer) → IsReady naming declared calls b answers
     → (names : List Name) (values : List ℕ) → map (value_of b.func.now answers) names ≡ map Some values → NamesArguments calls (map (λ name. Known (naming name)) names) (map arg.Value values)
 passed-named calls b answers ready [] [] found = tt
 passed-named calls b answers ready [] (value ∷ values) found = let no_way : ⊥ = cc in absurd no_way
@@ -454,7 +454,7 @@ passed-named calls b answers ready (name ∷ names) (value ∷ values) found =
     let rest : map (value_of b.func.now answers) names ≡ map Some values = cc in
     (value-found calls b answers ready name value here, passed-named calls b answers ready names values rest)
 
-pub found-names : {naming : Naming} {declared : SignatureShape} (calls : List AnsweredCall) (b : FunctionBuilder) (answers : List Answer) → IsReady naming declared calls b answers
+pub found-names : {R : Type 0} {naming : Naming} {declared : SignatureShape} (calls : List AnsweredCall) (b : FunctionBuilder R) (answers : List Answer) → IsReady naming declared calls b answers
     → (edge : Edge) (call : BlockCall) → IsFound b answers edge call → NamesEdge calls (edge_of naming edge) call
 found-names {naming} calls b answers ready edge call found =
     let passed = passed-values b.func.now answers edge.args.items call.args found.passed in
@@ -470,7 +470,7 @@ passed-exist f [] exist k d inside = absurd (omega (arith, inside))
 passed-exist f (value ∷ values) exist zero d inside = exist zero (omega arith)
 passed-exist f (value ∷ values) exist (suc k) d inside = passed-exist f values (λ j below. exist (suc j) (omega (arith, below))) k d (omega (arith, inside))
 
-pub found-exists : {naming : Naming} {declared : SignatureShape} (calls : List AnsweredCall) (b : FunctionBuilder) (answers : List Answer) → IsReady naming declared calls b answers
+pub found-exists : {R : Type 0} {naming : Naming} {declared : SignatureShape} (calls : List AnsweredCall) (b : FunctionBuilder R) (answers : List Answer) → IsReady naming declared calls b answers
     → (edge : Edge) (call : BlockCall) → IsFound b answers edge call → CanLead b call
 found-exists calls b answers ready edge call found =
     let passed = passed-values b.func.now answers edge.args.items call.args found.passed in
@@ -479,5 +479,5 @@ found-exists calls b answers ready edge call found =
         block-there calls b answers ready edge.block call.block found.target,
         subst (λ (xs : List BlockArg). All (PassedExists b.func.now) xs) (sym passed.2) exist,
       ),
-      not-true (is_yes (sealed_of b.ctx.now.ssa call.block)) found.unsealed,
+      not-true (is_yes (sealed_of b.ctx.now.parts.ssa call.block)) found.unsealed,
     )

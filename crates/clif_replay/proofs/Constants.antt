@@ -52,13 +52,13 @@ constant-count tables F128const constant = omega arith
 constant-count tables Vconst constant = omega arith
 
 -- it may be made in an open block, with as many bytes as its type has
-pub constant-allowed : (b : FunctionBuilder) (answers : List Answer) (opcode : PooledConstOpcode) (ty : «Type») (bytes : List ℕ) → is_open b ≡ true → has_bytes opcode ty bytes ≡ true
+pub constant-allowed : {R : Type 0} (b : FunctionBuilder R) (answers : List Answer) (opcode : PooledConstOpcode) (ty : «Type») (bytes : List ℕ) → is_open b ≡ true → has_bytes opcode ty bytes ≡ true
     → Judges (λ naming declared ledger. pooled_const opcode ty bytes) b answers true
 constant-allowed b answers opcode ty bytes opens fits naming declared calls ready =
     pooled-same calls b answers ready opcode ty bytes ∙ and_from (is_open b) (has_bytes opcode ty bytes) opens fits
 
 -- a builder that pooled a constant stands for the same calls, and its block is open where it was
-pub pooled-ready : {naming : Naming} {declared : SignatureShape} (calls : List AnsweredCall) (old new : FunctionBuilder) (answers : List Answer) → StandsFor declared calls new
+pub pooled-ready : {R : Type 0} {naming : Naming} {declared : SignatureShape} (calls : List AnsweredCall) (old new : FunctionBuilder R) (answers : List Answer) → StandsFor declared calls new
     → KeepsTables old new → IsReady naming declared calls old answers → IsReady naming declared calls new answers
 pooled-ready calls old new answers stands tables ready = record {
   reads = ready.reads;
@@ -70,6 +70,6 @@ pooled-ready calls old new answers stands tables ready = record {
   exceptions = subst (TablesAgree (NamesExceptions calls) (ledger_of calls).exception_tables) (sym tables.1) ready.exceptions;
 }
 
-pub pooled-open : (old new : FunctionBuilder) → new.position ≡ old.position → new.ctx.now ≡ old.ctx.now → is_open old ≡ true → is_open new ≡ true
+pub pooled-open : {R : Type 0} (old new : FunctionBuilder R) → new.position ≡ old.position → new.ctx.now.parts ≡ old.ctx.now.parts → is_open old ≡ true → is_open new ≡ true
 pooled-open old new position context opens =
-    ap (λ (p : Option ℕ). is_open_at p new.ctx.now) position ∙ ap (is_open_at old.position) context ∙ opens
+    ap (λ (p : Option ℕ). is_open_at p new.ctx.now.parts) position ∙ ap (is_open_at old.position) context ∙ opens

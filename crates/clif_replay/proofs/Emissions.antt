@@ -64,12 +64,12 @@ allowed-is naming ledger (immediate.IaddImmS x imm) = refl
 allowed-is naming ledger (immediate.IcmpImmS cond x imm) = refl
 
 -- the emission may be made in each ledger with which the builder agrees, or in none
-abbrev pub EmissionJudged : ImmediateCall → FunctionBuilder → List Answer → Bool → Type 0
+abbrev pub EmissionJudged : {R : Type 0} → ImmediateCall → FunctionBuilder R → List Answer → Bool → Type 0
 EmissionJudged called b answers allowed =
     (naming : Naming) (declared : SignatureShape) (calls : List AnsweredCall) → IsReady naming declared calls b answers
     → call_allowed (ledger_of calls) (Emit [] (emission_under naming (ledger_of calls) called)) ≡ allowed
 
-pub none-judged : (called : ImmediateCall) (b : FunctionBuilder) (answers : List Answer) → value_of b.func.now answers (operand_in called) ≡ None → EmissionJudged called b answers false
+pub none-judged : {R : Type 0} (called : ImmediateCall) (b : FunctionBuilder R) (answers : List Answer) → value_of b.func.now answers (operand_in called) ≡ None → EmissionJudged called b answers false
 none-judged called b answers none naming declared calls ready =
     let ledger : Ledger = ledger_of calls in
     allowed-is naming ledger called
@@ -78,7 +78,7 @@ none-judged called b answers none naming declared calls ready =
     ∙ no-value (acceptance.is_open ledger ledger.current) (is_int (operand_type naming ledger called)) (has_64_bits (constant_in called))
 
 -- by the value that the operand's name leads to
-module _ (called : ImmediateCall) (b : FunctionBuilder) (answers : List Answer) (x : ℕ) (found : value_of b.func.now answers (operand_in called) ≡ Some x) where
+module _ {R : Type 0} (called : ImmediateCall) (b : FunctionBuilder R) (answers : List Answer) (x : ℕ) (found : value_of b.func.now answers (operand_in called) ≡ Some x) where
   pub operand-typed : (naming : Naming) (declared : SignatureShape) (calls : List AnsweredCall) → IsReady naming declared calls b answers
       → operand_type naming (ledger_of calls) called ≡ type_in b x
   operand-typed naming declared calls ready = ap or_invalid (value-type-same calls b answers ready (operand_in called) x found)
@@ -104,7 +104,7 @@ module _ (called : ImmediateCall) (b : FunctionBuilder) (answers : List Answer) 
 -- WHAT IS KNOWN AFTERWARDS --------------------------------------------------------------------------------------------------
 
 -- it may not be made
-pub emission-misused : {why : Condition} (called : ImmediateCall) (b : FunctionBuilder) (answers : List Answer) → EmissionJudged called b answers false → MakesEmission called b b answers (Err (error.Misuse why))
+pub emission-misused : {R : Type 0} {why : Condition} (called : ImmediateCall) (b : FunctionBuilder R) (answers : List Answer) → EmissionJudged called b answers false → MakesEmission called b b answers (Err (error.Misuse why))
 emission-misused called b answers judges = record {
   loans = loans-stay b;
   name = tt;
@@ -123,11 +123,11 @@ emission-misused called b answers judges = record {
     no-full why same = cc
 
 -- the builder failed at one of its instructions
-pub emission-refused : (called : ImmediateCall) (old new : FunctionBuilder) (answers : List Answer) (e : BuildError) (y : CallError) (r : Result Answer CallError)
+pub emission-refused : {R : Type 0} (called : ImmediateCall) (old new : FunctionBuilder R) (answers : List Answer) (e : BuildError) (y : CallError) (r : Result Answer CallError)
     → r ≡ Err y → y ≡ call_error_of e → FailsBehind old new e → EmissionJudged called old answers true → MakesEmission called old new answers r
 emission-refused called old new answers e y r is gives failing judges =
     subst (λ (x : Result Answer CallError). MakesEmission called old new answers x) (sym (is ∙ ap Err gives)) (record {
-      loans = record { func = failing.built.loans.func ∙ failing.reaches.loans.func; ctx = failing.built.loans.ctx ∙ failing.reaches.loans.ctx };
+      loans = record { func = failing.built.loans.func ∙ failing.reaches.loans.func; ctx = failing.built.loans.ctx ∙ failing.reaches.loans.ctx; region = failing.built.loans.region ∙ failing.reaches.loans.region };
       name = tt;
       ready = λ naming declared calls ready. tt;
       judged = λ naming declared calls ready. judged-from _ _ e (λ same. judges naming declared calls ready) not-failed;
@@ -149,7 +149,7 @@ emission-refused called old new answers e y r is gives failing judges =
     met (inr values) = inr (sym failing.reaches.values ∙ values)
 
 -- it was made
-pub emission-answered : (called : ImmediateCall) (old new : FunctionBuilder) (answers : List Answer) (a : Answer) (made : ℕ) → Reaches made old new → EmissionJudged called old answers true
+pub emission-answered : {R : Type 0} (called : ImmediateCall) (old new : FunctionBuilder R) (answers : List Answer) (a : Answer) (made : ℕ) → Reaches made old new → EmissionJudged called old answers true
     → ((naming : Naming) (declared : SignatureShape) (calls : List AnsweredCall) → IsReady naming declared calls old answers
     → IsReadyBehind naming declared calls (plain_calls_under naming (ledger_of calls) (length calls) called) new answers a)
     → MakesEmission called old new answers (Ok a)

@@ -120,7 +120,7 @@ two-numbers (inst ∷ other ∷ more ∷ numbers) value many at = let no_way : �
 -- READINESS ---------------------------------------------------------------------------------------------------------------
 
 -- Behind more calls names of the list's next answer are answers of the last one, from some index on.
-module _ {naming : Naming} {declared : SignatureShape} (calls added : List AnsweredCall) (old new : FunctionBuilder) (answers : List Answer) (a : Answer) (last shift : ℕ)
+module _ {R : Type 0} {naming : Naming} {declared : SignatureShape} (calls added : List AnsweredCall) (old new : FunctionBuilder R) (answers : List Answer) (a : Answer) (last shift : ℕ)
     (ready : IsReady naming declared calls old answers) (stands : StandsFor declared (calls ++ added) new) where
   abbrev pub all : List AnsweredCall
   all = calls ++ added
@@ -176,7 +176,7 @@ module _ {naming : Naming} {declared : SignatureShape} (calls added : List Answe
   }
 
 -- Behind more calls, which leave the tables, it is ready where the next answer is that of the last call.
-pub ready-leaving : {naming : Naming} {declared : SignatureShape} (calls added : List AnsweredCall) (old new : FunctionBuilder) (answers : List Answer) (a : Answer) (last shift : ℕ)
+pub ready-leaving : {R : Type 0} {naming : Naming} {declared : SignatureShape} (calls added : List AnsweredCall) (old new : FunctionBuilder R) (answers : List Answer) (a : Answer) (last shift : ℕ)
     → IsReady naming declared calls old answers → StandsFor declared (calls ++ added) new → AllByRecursion LeavesTables (script_of added) → KeepsTables old new
     → IsAnswered (extended naming (length answers) last shift (length (calls ++ added))) (calls ++ added) (length answers) a → ((made : BlockCall) → a ≡ answer.Edge made → ⊥)
     → IsReady (extended naming (length answers) last shift (length (calls ++ added))) declared (calls ++ added) new (answers ++ a ∷ [])
@@ -213,7 +213,7 @@ result-answered naming {calls} answers first count last call given at_call at_an
 pub values-no-edge : (first count : ℕ) (made : BlockCall) → answer.Values first count ≡ answer.Edge made → ⊥
 values-no-edge first count made same = cc
 
-ready-behind : {naming : Naming} {declared : SignatureShape} (calls added : List AnsweredCall) (old new : FunctionBuilder) (answers : List Answer) (first count last : ℕ) (call : AnsweredCall) (given : List Answered)
+ready-behind : {R : Type 0} {naming : Naming} {declared : SignatureShape} (calls added : List AnsweredCall) (old new : FunctionBuilder R) (answers : List Answer) (first count last : ℕ) (call : AnsweredCall) (given : List Answered)
     → IsReady naming declared calls old answers → StandsFor declared (calls ++ added) new → AllByRecursion LeavesTables (script_of added) → KeepsTables old new
     → slice_get (calls ++ added) last ≡ Some call → slice_get (ledger_of (calls ++ added)).answers last ≡ Some given → AreResults (answer.Values first count) given call.numbers
     → IsReady (extended naming (length answers) last 1 (length (calls ++ added))) declared (calls ++ added) new (answers ++ answer.Values first count ∷ [])
@@ -249,7 +249,7 @@ one-result (immediate.IaddImmS x imm) ty operands = (ty, refl)
 one-result (immediate.IcmpImmS cond x imm) ty operands = (type.Lane lane.I8, refl)
 
 -- the law, for each of both
-stands-behind : ConstantOperandsStand → (called : ImmediateCall) → StandsBehind (plain_in called) (λ x constant. shape_in called x constant)
+stands-behind : {R : Type 0} → ConstantOperandsStand R → (called : ImmediateCall) → StandsBehind R (plain_in called) (λ x constant. shape_in called x constant)
 stands-behind law (immediate.IaddImmS x imm) = law.adds
 stands-behind law (immediate.IcmpImmS cond x imm) = law.compares cond
 
@@ -257,7 +257,7 @@ pub length-script : (added : List AnsweredCall) → length (script_of added) ≡
 length-script added = length-map added (λ (call : AnsweredCall). call.request)
 
 -- the builder that stands for the plain calls is ready
-stands-ready : {naming : Naming} {declared : SignatureShape} (calls : List AnsweredCall) (called : ImmediateCall) (old new : FunctionBuilder) (answers : List Answer) (ty : «Type») (x : named.Name) (value : ℕ)
+stands-ready : {R : Type 0} {naming : Naming} {declared : SignatureShape} (calls : List AnsweredCall) (called : ImmediateCall) (old new : FunctionBuilder R) (answers : List Answer) (ty : «Type») (x : named.Name) (value : ℕ)
     → IsReady naming declared calls old answers → KeepsTables old new
     → StandsWith declared calls (constant_calls (plain_in called) ty (constant_in called) (length calls) x) (named.answer_of (place_behind ty (length calls)) 1) new value
     → IsReadyBehind naming declared calls (constant_calls (plain_in called) ty (constant_in called) (length calls) x) new answers (answer.Values value 1)
@@ -317,7 +317,7 @@ stands-ready {naming} {declared} calls called old new answers ty x value ready k
     numbers = two-numbers at_call.0.numbers value
         ((with_calls.stands.ledger.answers last at_call.0 given at_call.1 answered_last).count ∙ ap (λ (xs : List Answered). length xs) answers_are) at_call.2
 
-pub emission-ready : ConstantOperandsStand → {naming : Naming} {declared : SignatureShape} (calls : List AnsweredCall) (called : ImmediateCall) (old new : FunctionBuilder) (answers : List Answer) (x value : ℕ)
+pub emission-ready : {R : Type 0} → ConstantOperandsStand R → {naming : Naming} {declared : SignatureShape} (calls : List AnsweredCall) (called : ImmediateCall) (old new : FunctionBuilder R) (answers : List Answer) (x value : ℕ)
     → IsReady naming declared calls old answers → KeepsTables old new → value_of old.func.now answers (operand_in called) ≡ Some x → BuildsEmission called x old new (Ok value)
     → IsReadyBehind naming declared calls (plain_calls_under naming (ledger_of calls) (length calls) called) new answers (answer.Values value 1)
 emission-ready law {naming} {declared} calls called old new answers x value ready keeps found built =

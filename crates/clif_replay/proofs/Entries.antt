@@ -36,12 +36,12 @@ count-aside tables (ASignature signature) = refl
 count-aside tables (AFunction function) = refl
 
 -- an entry may be made in the ledger where it may be made here
-pub entry-same : {naming : Naming} {declared : SignatureShape} (calls : List AnsweredCall) (b : FunctionBuilder) (answers : List Answer) → IsReady naming declared calls b answers
+pub entry-same : {R : Type 0} {naming : Naming} {declared : SignatureShape} (calls : List AnsweredCall) (b : FunctionBuilder R) (answers : List Answer) → IsReady naming declared calls b answers
     → (entry : TableEntry) → allows (ledger_of calls) (MakeEntry entry) ≡ can_make b.func.now.tables entry
 entry-same calls b answers ready entry = ap (λ (tables : TableLists). can_make tables entry) ready.stands.ledger.tables ∙ can-make-aside b.func.now.tables entry
 
 -- and is answered by its number
-pub entry-answered : {naming : Naming} {declared : SignatureShape} (calls : List AnsweredCall) (b : FunctionBuilder) (answers : List Answer) → IsReady naming declared calls b answers
+pub entry-answered : {R : Type 0} {naming : Naming} {declared : SignatureShape} (calls : List AnsweredCall) (b : FunctionBuilder R) (answers : List Answer) → IsReady naming declared calls b answers
     → (made : TableEntry) (number : ℕ) → number ≡ count_for b.func.now.tables made
     → AnswerIs (answer.Entry (entry_as (AnEntry made number))) (answers_to (ledger_of calls) (MakeEntry made)) (number ∷ [])
 entry-answered calls b answers ready made number is = (

@@ -109,7 +109,7 @@ all-found f answers (name ∷ names) (value ∷ values) found =
     let rest : map (value_of f answers) names ≡ map Some values = cc in
     ap (λ (o : Option ℕ). is_some o && all_values f answers names) here ∙ all-found f answers names values rest
 
-named-all : {naming : Naming} {declared : SignatureShape} (calls : List AnsweredCall) (b : FunctionBuilder) (answers : List Answer) → IsReady naming declared calls b answers
+named-all : {R : Type 0} {naming : Naming} {declared : SignatureShape} (calls : List AnsweredCall) (b : FunctionBuilder R) (answers : List Answer) → IsReady naming declared calls b answers
     → (names : List Name) (values : List ℕ) → map (value_of b.func.now answers) names ≡ map Some values → AllZip (NamesValue calls) (map naming names) values
 named-all calls b answers ready [] [] found = tt
 named-all calls b answers ready [] (value ∷ values) found = let no_way : ⊥ = cc in absurd no_way
@@ -119,7 +119,7 @@ named-all calls b answers ready (name ∷ names) (value ∷ values) found =
     let rest : map (value_of b.func.now answers) names ≡ map Some values = cc in
     (value-found calls b answers ready name value here, named-all calls b answers ready names values rest)
 
-module _ {naming : Naming} {declared : SignatureShape} (calls : List AnsweredCall) (b : FunctionBuilder) (answers : List Answer) (ready : IsReady naming declared calls b answers) where
+module _ {R : Type 0} {naming : Naming} {declared : SignatureShape} (calls : List AnsweredCall) (b : FunctionBuilder R) (answers : List Answer) (ready : IsReady naming declared calls b answers) where
   exists : (name : Name) (value : ℕ) → value_of b.func.now answers name ≡ Some value → value < length b.func.now.values
   exists name value found = value-exists calls b answers ready name value found
 
@@ -174,7 +174,7 @@ module _ {naming : Naming} {declared : SignatureShape} (calls : List AnsweredCal
 -- THE CONDITION -----------------------------------------------------------------------------------------------------------
 
 -- of no bytes only the block matters
-nothing-can : (b : FunctionBuilder) (w : PointerWidth) (operation : ByteOperation) (second : ℕ) → moves_nothing operation ≡ true → can_help b w operation second ≡ is_open b
+nothing-can : {R : Type 0} (b : FunctionBuilder R) (w : PointerWidth) (operation : ByteOperation) (second : ℕ) → moves_nothing operation ≡ true → can_help b w operation second ≡ is_open b
 nothing-can b w (Copy copy) second moves =
     ap (λ (none : Bool). is_open b && true && (none || (nat_le (min copy.target_alignment copy.source_alignment) (greatest_power copy.size) && fits_pointer w copy.size))) moves
     ∙ and-true (is_open b && true) ∙ and-true (is_open b)
@@ -190,7 +190,7 @@ sized-byte (Fill fill) sized = lt-ltb fill.byte 256 sized.1
 sized-byte (CompareBytes compared) sized = refl
 sized-byte (CallLibrary callee) sized = refl
 
-module _ (config : TargetFrontendConfig) (called : MemoryCall) (b : FunctionBuilder) (answers : List Answer) where
+module _ {R : Type 0} (config : TargetFrontendConfig) (called : MemoryCall) (b : FunctionBuilder R) (answers : List Answer) where
   -- the helper may be made in each ledger with which the builder agrees, or in none
   abbrev pub HelperJudged : Bool → Type 0
   HelperJudged allowed =
@@ -276,13 +276,13 @@ module _ (config : TargetFrontendConfig) (called : MemoryCall) (b : FunctionBuil
 
 module _ (config : TargetFrontendConfig) (called : MemoryCall) where
   -- the condition of one that moves nothing, and of one that moves something
-  nothing-judged : (b : FunctionBuilder) (answers : List Answer) (allowed : Bool) → moves_nothing (operation_in called) ≡ true → HelperJudged config called b answers allowed
+  nothing-judged : {R : Type 0} (b : FunctionBuilder R) (answers : List Answer) (allowed : Bool) → moves_nothing (operation_in called) ≡ true → HelperJudged config called b answers allowed
       → (naming : Naming) (declared : SignatureShape) (calls : List AnsweredCall) → IsReady naming declared calls b answers → allows (ledger_of calls) (nothing_moved naming called) ≡ allowed
   nothing-judged b answers allowed moves judges naming declared calls ready =
       sym (ap (λ (none : Bool). call_allowed (ledger_of calls) (if none then Ask (nothing_moved naming called) else helper_under config naming (ledger_of calls) called)) moves)
       ∙ judges naming declared calls ready
 
-  some-judged : (b : FunctionBuilder) (answers : List Answer) (allowed : Bool) → moves_nothing (operation_in called) ≡ false → HelperJudged config called b answers allowed
+  some-judged : {R : Type 0} (b : FunctionBuilder R) (answers : List Answer) (allowed : Bool) → moves_nothing (operation_in called) ≡ false → HelperJudged config called b answers allowed
       → (naming : Naming) (declared : SignatureShape) (calls : List AnsweredCall) → IsReady naming declared calls b answers
       → call_allowed (ledger_of calls) (helper_under config naming (ledger_of calls) called) ≡ allowed
   some-judged b answers allowed moves judges naming declared calls ready =
@@ -290,7 +290,7 @@ module _ (config : TargetFrontendConfig) (called : MemoryCall) where
       ∙ judges naming declared calls ready
 
   -- it may not be made
-  pub helper-misused : (why : Condition) (b : FunctionBuilder) (answers : List Answer) → HelperJudged config called b answers false → MakesMemory config called b b answers (Err (error.Misuse why))
+  pub helper-misused : {R : Type 0} (why : Condition) (b : FunctionBuilder R) (answers : List Answer) → HelperJudged config called b answers false → MakesMemory config called b b answers (Err (error.Misuse why))
   helper-misused why b answers judges = by (moves_nothing (operation_in called)) refl
     where
       no-refusal : (other : Condition) → ◌≡◌ {A = Result Answer CallError} (Err (error.Misuse why)) (Err (error.Refused other)) → ⊥
@@ -309,7 +309,7 @@ module _ (config : TargetFrontendConfig) (called : MemoryCall) where
       }
 
   -- a call of the builder failed
-  module _ (old new : FunctionBuilder) (answers : List Answer) (e : BuildError) (loans : SameLoans old new) (not-failed : e ≡ build.Failed → ⊥) (judges : HelperJudged config called old answers true) where
+  module _ {R : Type 0} (old new : FunctionBuilder R) (answers : List Answer) (e : BuildError) (loans : SameLoans old new) (not-failed : e ≡ build.Failed → ⊥) (judges : HelperJudged config called old answers true) where
     pub helper-failed : MakesMemory config called old new answers (Err (call_error_of e))
     helper-failed = by (moves_nothing (operation_in called)) refl
       where
@@ -341,19 +341,19 @@ abbrev pub IsHelpAnswer : LastResults → List AnsweredCall → (last : ℕ) →
 IsHelpAnswer AreGenerated all last a = a ≡ no_answer
 IsHelpAnswer AreGiven all last a = (value : ℕ) × (a ≡ answer.Values value 1) × NamesValue all (meaning.answer_of last 1) value
 
-pub record HelpStands (how : LastResults) (declared : SignatureShape) (calls : List AnsweredCall) (plain : Script) (a : Answer) (new : FunctionBuilder) : Type 0 where
+pub record HelpStands {R : Type 0} (how : LastResults) (declared : SignatureShape) (calls : List AnsweredCall) (plain : Script) (a : Answer) (new : FunctionBuilder R) : Type 0 where
   pub added : List AnsweredCall
   pub asked : script_of added ≡ plain
   pub stands : StandsFor declared (calls ++ added) new
   pub answer : IsHelpAnswer how (calls ++ added) (length calls + length plain - 1) a
 
 -- A helper was called, and succeeded.
-pub record IsHelpMade (how : LastResults) (config : TargetFrontendConfig) (operation : ByteOperation) (values : List ℕ) (old new : FunctionBuilder) (a : Answer) : Type 0 where
+pub record IsHelpMade {R : Type 0} (how : LastResults) (config : TargetFrontendConfig) (operation : ByteOperation) (values : List ℕ) (old new : FunctionBuilder R) (a : Answer) : Type 0 where
   pub loans : SameLoans old new
   pub name : new.func.now.name ≡ old.func.now.name
   pub keeps : KeepsTables old new
   pub sound : new.failed ≡ false
-  pub variables : new.ctx.now.variables ≡ old.ctx.now.variables
+  pub variables : new.ctx.now.parts.variables ≡ old.ctx.now.parts.variables
   pub filling : ℤ
   pub fills : FillsWith operation filling
   pub stands : (declared : SignatureShape) (calls : List AnsweredCall) (names : List meaning.Name) → StandsFor declared calls old → AllZip (NamesValue calls) names values
@@ -365,7 +365,7 @@ given-fills (Fill fill) is = let no_way : ⊥ = cc in absurd no_way
 given-fills (CompareBytes compared) is = tt
 given-fills (CallLibrary callee) is = tt
 
-module _ (config : TargetFrontendConfig) (operation : ByteOperation) (values : List ℕ) (old new : FunctionBuilder) where
+module _ {R : Type 0} (config : TargetFrontendConfig) (operation : ByteOperation) (values : List ℕ) (old new : FunctionBuilder R) where
   pub help-made : (how : LastResults) (a : Answer) → how_of operation ≡ how → IsHelped how config operation values old new (Ok a) → IsHelpMade how config operation values old new a
   help-made AreGenerated a so (Ok done, is, helps) = record {
     loans = helps.made.line.call.loans;
@@ -461,8 +461,8 @@ nothing-no-edge made same = cc
 abbrev results-of : List «Type» → List Answered
 results-of types = AnInstruction ∷ map AValue types
 
-module _ (lines : HelpersAreLines) (config : TargetFrontendConfig) (called : MemoryCall) (moves : moves_nothing (operation_in called) ≡ false) (sized : IsSized (operation_in called))
-    (may : may_make config.pointer_width (operation_in called) ≡ true) (old new : FunctionBuilder) (answers : List Answer) (values : Operands) (found : AreOperands old.func.now answers called values)
+module _ {R : Type 0} (lines : HelpersAreLines) (config : TargetFrontendConfig) (called : MemoryCall) (moves : moves_nothing (operation_in called) ≡ false) (sized : IsSized (operation_in called))
+    (may : may_make config.pointer_width (operation_in called) ≡ true) (old new : FunctionBuilder R) (answers : List Answer) (values : Operands) (found : AreOperands old.func.now answers called values)
     (a : Answer) where
   module _ (how : LastResults) (so : how_of (operation_in called) ≡ how) (made : IsHelpMade how config (operation_in called) (values_in called values) old new a)
       {naming : Naming} {declared : SignatureShape} (calls : List AnsweredCall) (ready : IsReady naming declared calls old answers) where
@@ -632,12 +632,12 @@ no-calls config (Fill fill) filling lists first (a ∷ b ∷ rest) moves = (refl
 no-calls config (CompareBytes compared) filling lists first rest moves = absurd (false≢true moves)
 no-calls config (CallLibrary callee) filling lists first rest moves = absurd (false≢true moves)
 
-nothing-added : (declared : SignatureShape) (calls added : List AnsweredCall) (b : FunctionBuilder) → script_of added ≡ [] → StandsFor declared (calls ++ added) b → StandsFor declared calls b
+nothing-added : {R : Type 0} (declared : SignatureShape) (calls added : List AnsweredCall) (b : FunctionBuilder R) → script_of added ≡ [] → StandsFor declared (calls ++ added) b → StandsFor declared calls b
 nothing-added declared calls [] b asked stands = subst (λ (list : List AnsweredCall). StandsFor declared list b) (append-nil calls) stands
 nothing-added declared calls (call ∷ added) b asked stands = let no_way : ⊥ = cc in absurd no_way
 
 -- it was made
-pub helper-made : HelpersAreLines → NotesAddNothing → (config : TargetFrontendConfig) (called : MemoryCall) (old new : FunctionBuilder) (answers : List Answer) (values : Operands)
+pub helper-made : {R : Type 0} → HelpersAreLines → NotesAddNothing → (config : TargetFrontendConfig) (called : MemoryCall) (old new : FunctionBuilder R) (answers : List Answer) (values : Operands)
     → AreOperands old.func.now answers called values → can_help old config.pointer_width (operation_in called) values.second ≡ true → IsSized (operation_in called) → (a : Answer)
     → CallsHelper config (operation_in called) (values_in called values) old new (Ok a) → MakesMemory config called old new answers (Ok a)
 helper-made lines notes config called old new answers values found can sized a helped = by (moves_nothing (operation_in called)) refl
@@ -674,7 +674,7 @@ helper-made lines notes config called old new answers values found can sized a h
     }
 
 -- it wasn't, since a call of the builder failed
-pub refused-by : (config : TargetFrontendConfig) (called : MemoryCall) (old new : FunctionBuilder) (answers : List Answer) (values : Operands) (e : BuildError) → old.failed ≡ false
+pub refused-by : {R : Type 0} (config : TargetFrontendConfig) (called : MemoryCall) (old new : FunctionBuilder R) (answers : List Answer) (values : Operands) (e : BuildError) → old.failed ≡ false
     → CallsHelper config (operation_in called) (values_in called values) old new (Err e) → HelperJudged config called old answers true → MakesMemory config called old new answers (Err (call_error_of e))
 refused-by config called old new answers values e sound helped judges =
     let failed = help-failed config (operation_in called) (values_in called values) old new (how_of (operation_in called)) e helped in

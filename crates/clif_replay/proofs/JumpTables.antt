@@ -51,7 +51,7 @@ use Rattle.clif_replay.proofs.ReadyLaws.{block-found, block-missing, edge-found,
 
 -- EDGES -----------------------------------------------------------------------------------------------------------------
 
-block-same : {naming : Naming} {declared : SignatureShape} (calls : List AnsweredCall) (b : FunctionBuilder) (answers : List Answer) → IsReady naming declared calls b answers
+block-same : {R : Type 0} {naming : Naming} {declared : SignatureShape} (calls : List AnsweredCall) (b : FunctionBuilder R) (answers : List Answer) → IsReady naming declared calls b answers
     → (name : Name) → has_block (ledger_of calls) (naming name) ≡ is_some (block_of answers name)
 block-same {naming} calls b answers ready name = by (block_of answers name) refl
   where
@@ -60,7 +60,7 @@ block-same {naming} calls b answers ready name = by (block_of answers name) refl
     by (Some block) at = (block-found calls b answers ready name block at).is_block ∙ ap is_some (sym at)
 
 -- what an edge of a table passes is there in the ledger where it is here
-passed-same : {naming : Naming} {declared : SignatureShape} (calls : List AnsweredCall) (b : FunctionBuilder) (answers : List Answer) → IsReady naming declared calls b answers
+passed-same : {R : Type 0} {naming : Naming} {declared : SignatureShape} (calls : List AnsweredCall) (b : FunctionBuilder R) (answers : List Answer) → IsReady naming declared calls b answers
     → (args : List Passed) → list_all (has_argument (ledger_of calls)) (map (passed_of naming) args) ≡ all_passed b.func.now answers args
 passed-same {naming} calls b answers ready [] = refl
 passed-same {naming} calls b answers ready (one ∷ args) =
@@ -77,14 +77,14 @@ passed-same {naming} calls b answers ready (one ∷ args) =
     by (passed.Thrown place) = refl
 
 -- an edge is there in the ledger where it is here
-pub edge-same : {naming : Naming} {declared : SignatureShape} (calls : List AnsweredCall) (b : FunctionBuilder) (answers : List Answer) → IsReady naming declared calls b answers
+pub edge-same : {R : Type 0} {naming : Naming} {declared : SignatureShape} (calls : List AnsweredCall) (b : FunctionBuilder R) (answers : List Answer) → IsReady naming declared calls b answers
     → (edge : TableEdge) → allows (ledger_of calls) (MakeEdge (table_edge_of naming edge)) ≡ has_edge b answers edge
 edge-same {naming} calls b answers ready edge =
     ap (λ (test : Bool). test && list_all (has_argument (ledger_of calls)) (map (passed_of naming) edge.args.items)) (block-same calls b answers ready edge.block)
     ∙ ap (λ (all : Bool). is_some (block_of answers edge.block) && all) (passed-same calls b answers ready edge.args.items)
 
 -- it is named
-passed-names : {naming : Naming} {declared : SignatureShape} (calls : List AnsweredCall) (b : FunctionBuilder) (answers : List Answer) → IsReady naming declared calls b answers
+passed-names : {R : Type 0} {naming : Naming} {declared : SignatureShape} (calls : List AnsweredCall) (b : FunctionBuilder R) (answers : List Answer) → IsReady naming declared calls b answers
     → (args : List Passed) (made : List BlockArg) → map (passed_in b.func.now answers) args ≡ map Some made → NamesArguments calls (map (passed_of naming) args) made
 passed-names {naming} calls b answers ready [] [] found = tt
 passed-names {naming} calls b answers ready [] (a ∷ made) found = let no_way : ⊥ = cc in absurd no_way
@@ -101,7 +101,7 @@ passed-names {naming} calls b answers ready (one ∷ args) (a ∷ made) found =
     by (passed.Returned place) is = subst (NamesArgument calls (CallResult place)) (same_Some (arg.TryCallRet place) a is) refl
     by (passed.Thrown place) is = subst (NamesArgument calls (CallPayload place)) (same_Some (arg.TryCallExn place) a is) refl
 
-edge-names : {naming : Naming} {declared : SignatureShape} (calls : List AnsweredCall) (b : FunctionBuilder) (answers : List Answer) → IsReady naming declared calls b answers
+edge-names : {R : Type 0} {naming : Naming} {declared : SignatureShape} (calls : List AnsweredCall) (b : FunctionBuilder R) (answers : List Answer) → IsReady naming declared calls b answers
     → (edge : TableEdge) (call : BlockCall) → IsEdge b answers edge call → NamesEdge calls (table_edge_of naming edge) call
 edge-names calls b answers ready edge call found = record {
   target = block-found calls b answers ready edge.block call.block found.target;
@@ -109,7 +109,7 @@ edge-names calls b answers ready edge call found = record {
 }
 
 -- names lead to edges where they name edges
-pub edges-same : {naming : Naming} {declared : SignatureShape} (calls : List AnsweredCall) (b : FunctionBuilder) (answers : List Answer) → IsReady naming declared calls b answers
+pub edges-same : {R : Type 0} {naming : Naming} {declared : SignatureShape} (calls : List AnsweredCall) (b : FunctionBuilder R) (answers : List Answer) → IsReady naming declared calls b answers
     → (names : List Name) → list_all (λ name. is_some (edge_named (ledger_of calls) name)) (map naming names) ≡ list_all (λ name. is_some (edge_at answers name)) names
 edges-same {naming} calls b answers ready [] = refl
 edges-same {naming} calls b answers ready (name ∷ names) =
@@ -120,7 +120,7 @@ edges-same {naming} calls b answers ready (name ∷ names) =
     by None at = edge-missing calls b answers ready name at ∙ ap is_some (sym at)
     by (Some made) at = ap is_some (edge-found calls b answers ready name made at).1 ∙ ap is_some (sym at)
 
-pub edges-names : {naming : Naming} {declared : SignatureShape} (calls : List AnsweredCall) (b : FunctionBuilder) (answers : List Answer) → IsReady naming declared calls b answers
+pub edges-names : {R : Type 0} {naming : Naming} {declared : SignatureShape} (calls : List AnsweredCall) (b : FunctionBuilder R) (answers : List Answer) → IsReady naming declared calls b answers
     → (names : List Name) (made : List BlockCall) → map (edge_at answers) names ≡ map Some made → NamesEdges calls (edges_named (ledger_of calls) (map naming names)) made
 edges-names {naming} calls b answers ready [] [] found = tt
 edges-names {naming} calls b answers ready [] (other ∷ made) found = let no_way : ⊥ = cc in absurd no_way
@@ -143,7 +143,7 @@ all-there answers (name ∷ names) (other ∷ made) found =
 -- TABLES ----------------------------------------------------------------------------------------------------------------
 
 -- the edges of a table that serves nothing so far
-pub table-named : {naming : Naming} {declared : SignatureShape} (calls : List AnsweredCall) (b : FunctionBuilder) (answers : List Answer) → IsReady naming declared calls b answers
+pub table-named : {R : Type 0} {naming : Naming} {declared : SignatureShape} (calls : List AnsweredCall) (b : FunctionBuilder R) (answers : List Answer) → IsReady naming declared calls b answers
     → (table : ℕ) (made : List BlockCall) → table_edges b table ≡ Some made
     → (edges : List (meaning.Edge named.Name named.Name)) × (unserved_edges (ledger_of calls) table ≡ Some edges) × NamesEdges calls edges made
 table-named calls b answers ready table made found =
@@ -151,7 +151,7 @@ table-named calls b answers ready table made found =
     (subst (TableAgrees (NamesEdges calls) (unserved_edges (ledger_of calls) table)) found
     (table-at (NamesEdges calls) (ledger_of calls).jump_tables b.func.now.tables.jump_tables table ready.tables))
 
-table-missing : {naming : Naming} {declared : SignatureShape} (calls : List AnsweredCall) (b : FunctionBuilder) (answers : List Answer) → IsReady naming declared calls b answers
+table-missing : {R : Type 0} {naming : Naming} {declared : SignatureShape} (calls : List AnsweredCall) (b : FunctionBuilder R) (answers : List Answer) → IsReady naming declared calls b answers
     → (table : ℕ) → table_edges b table ≡ None → unserved_edges (ledger_of calls) table ≡ None
 table-missing calls b answers ready table missing =
     held-missing (NamesEdges calls) (unserved_edges (ledger_of calls) table)
@@ -175,7 +175,7 @@ passed-there calls (argument ∷ arguments) (a ∷ args) names =
     by (CallPayload index) made is = refl
 
 -- an edge may be made where its target isn't sealed
-pub leads-same : {naming : Naming} {declared : SignatureShape} (calls : List AnsweredCall) (b : FunctionBuilder) (answers : List Answer) → IsReady naming declared calls b answers
+pub leads-same : {R : Type 0} {naming : Naming} {declared : SignatureShape} (calls : List AnsweredCall) (b : FunctionBuilder R) (answers : List Answer) → IsReady naming declared calls b answers
     → (edges : List (meaning.Edge named.Name named.Name)) (made : List BlockCall) → NamesEdges calls edges made
     → list_all (can_lead (ledger_of calls)) edges ≡ list_all (λ edge. can_seal b edge.block) made
 leads-same calls b answers ready [] [] names = refl
@@ -198,7 +198,7 @@ leads-same calls b answers ready (edge ∷ edges) (other ∷ made) (names, more)
 -- THE BRANCH ------------------------------------------------------------------------------------------------------------
 
 -- a branch by a table is allowed where the block is open, the index is there and the table serves
-pub branch-same : {naming : Naming} {declared : SignatureShape} (calls : List AnsweredCall) (b : FunctionBuilder) (answers : List Answer) → IsReady naming declared calls b answers
+pub branch-same : {R : Type 0} {naming : Naming} {declared : SignatureShape} (calls : List AnsweredCall) (b : FunctionBuilder R) (answers : List Answer) → IsReady naming declared calls b answers
     → (index : Name) (table : ℕ) → allows (ledger_of calls) (br_table (ledger_of calls) (naming index) table) ≡ ((is_open b && is_some (value_of b.func.now answers index)) && serves b table)
 branch-same {naming} calls b answers ready index table = by (table_edges b table) refl
   where
@@ -227,21 +227,21 @@ branch-same {naming} calls b answers ready index table = by (table_edges b table
         rw (there, opens, values, edges) (all (is_open b) (is_some (value_of b.func.now answers index)) (list_all (λ edge. can_seal b edge.block) made) ∙ sym right)
 
 -- it isn't, where one of these fails
-pub branch-closed : (b : FunctionBuilder) (value : Bool) (table : ℕ) → is_open b ≡ false → ((is_open b && value) && serves b table) ≡ false
+pub branch-closed : {R : Type 0} (b : FunctionBuilder R) (value : Bool) (table : ℕ) → is_open b ≡ false → ((is_open b && value) && serves b table) ≡ false
 branch-closed b value table closed = ap (λ (test : Bool). (test && value) && serves b table) closed
 
 -- there is no table at the next number
-pub none-serves : (b : FunctionBuilder) → serves b (length b.func.now.tables.jump_tables) ≡ false
+pub none-serves : {R : Type 0} (b : FunctionBuilder R) → serves b (length b.func.now.tables.jump_tables) ≡ false
 none-serves b =
     ap (λ (o : Option (Option (List BlockCall))). serves_at b (unserved o))
     (slice_get_past b.func.now.tables.jump_tables (length b.func.now.tables.jump_tables) (omega arith))
 
-pub branch-missing : (b : FunctionBuilder) (o : Option ℕ) (table : ℕ) → o ≡ None → ((is_open b && is_some o) && serves b table) ≡ false
+pub branch-missing : {R : Type 0} (b : FunctionBuilder R) (o : Option ℕ) (table : ℕ) → o ≡ None → ((is_open b && is_some o) && serves b table) ≡ false
 branch-missing b o table none =
     ap (λ (test : Bool). test && serves b table) (and_right (is_open b) (is_some o) (ap is_some none))
 
 -- the edges of a table that serves may be made
-argument-exists : {naming : Naming} {declared : SignatureShape} (calls : List AnsweredCall) (b : FunctionBuilder) (answers : List Answer) → IsReady naming declared calls b answers
+argument-exists : {R : Type 0} {naming : Naming} {declared : SignatureShape} (calls : List AnsweredCall) (b : FunctionBuilder R) (answers : List Answer) → IsReady naming declared calls b answers
     → (argument : Argument named.Name) (made : BlockArg) → NamesArgument calls argument made → PassedExists b.func.now made
 argument-exists calls b answers ready (Known name) (arg.Value value) is =
     let typed = (read calls b answers ready).value name value is in
@@ -252,7 +252,7 @@ argument-exists calls b answers ready argument (arg.TryCallExn place) is = tt
 argument-exists calls b answers ready (CallResult index) (arg.Value value) is = absurd is
 argument-exists calls b answers ready (CallPayload index) (arg.Value value) is = absurd is
 
-pub arguments-exist : {naming : Naming} {declared : SignatureShape} (calls : List AnsweredCall) (b : FunctionBuilder) (answers : List Answer) → IsReady naming declared calls b answers
+pub arguments-exist : {R : Type 0} {naming : Naming} {declared : SignatureShape} (calls : List AnsweredCall) (b : FunctionBuilder R) (answers : List Answer) → IsReady naming declared calls b answers
     → (arguments : List (Argument named.Name)) (made : List BlockArg) → NamesArguments calls arguments made → All (PassedExists b.func.now) made
 arguments-exist calls b answers ready arguments [] names k d below = absurd (omega (arith, below))
 arguments-exist calls b answers ready [] (a ∷ made) names k d below = absurd names
@@ -260,7 +260,7 @@ arguments-exist calls b answers ready (argument ∷ arguments) (a ∷ made) name
 arguments-exist calls b answers ready (argument ∷ arguments) (a ∷ made) names (suc k) d below =
     arguments-exist calls b answers ready arguments made names.1 k d (omega (arith, below))
 
-pub edges-lead : {naming : Naming} {declared : SignatureShape} (calls : List AnsweredCall) (b : FunctionBuilder) (answers : List Answer) → IsReady naming declared calls b answers
+pub edges-lead : {R : Type 0} {naming : Naming} {declared : SignatureShape} (calls : List AnsweredCall) (b : FunctionBuilder R) (answers : List Answer) → IsReady naming declared calls b answers
     → (edges : List (meaning.Edge named.Name named.Name)) (made : List BlockCall) → NamesEdges calls edges made → list_all (λ edge. can_seal b edge.block) made ≡ true → All (CanLead b) made
 edges-lead calls b answers ready edges [] names opens k d below = absurd (omega (arith, below))
 edges-lead calls b answers ready [] (other ∷ made) names opens k d below = absurd names
@@ -273,7 +273,7 @@ edges-lead calls b answers ready (edge ∷ edges) (other ∷ made) names opens z
 edges-lead calls b answers ready (edge ∷ edges) (other ∷ made) names opens (suc k) d below =
     edges-lead calls b answers ready edges made names.1 (and_parts (can_seal b other.block) (list_all (λ edge. can_seal b edge.block) made) opens).1 k d (omega (arith, below))
 
-pub serving : {naming : Naming} {declared : SignatureShape} (calls : List AnsweredCall) (b : FunctionBuilder) (answers : List Answer) → IsReady naming declared calls b answers
+pub serving : {R : Type 0} {naming : Naming} {declared : SignatureShape} (calls : List AnsweredCall) (b : FunctionBuilder R) (answers : List Answer) → IsReady naming declared calls b answers
     → (table : ℕ) → serves b table ≡ true → MayServe b table
 serving calls b answers ready table is = by (table_edges b table) refl
   where
@@ -284,20 +284,20 @@ serving calls b answers ready table is = by (table_edges b table) refl
         (made, found, edges-lead calls b answers ready named.0 made named.2 (sym (ap (serves_at b) found) ∙ is))
 
 -- what a branch by a table makes of a builder that hasn't failed
-pub record Branched (old new : FunctionBuilder) (index table : ℕ) (answer : Result ℕ BuildError) : Type 0 where
+pub record Branched {R : Type 0} (old new : FunctionBuilder R) (index table : ℕ) (answer : Result ℕ BuildError) : Type 0 where
   pub loans : SameLoans old new
   pub failed : (answer ≡ Err Failed) ↔ IsTrue old.failed
   pub full : answer ≡ Err Full → IsFull old.func.now
-  pub between : FunctionBuilder
+  pub between : FunctionBuilder R
   pub edges : List BlockCall
   pub takes : TakesJumpTable old between table (Ok edges)
   pub builds : Builds between new (branch_table index edges) Invalid answer
 
-pub branched : (old new : FunctionBuilder) (index table : ℕ) (answer : Result ℕ BuildError) → old.failed ≡ false
+pub branched : {R : Type 0} (old new : FunctionBuilder R) (index table : ℕ) (answer : Result ℕ BuildError) → old.failed ≡ false
     → TakesThenBuilds TakesJumpTable Builds old new (branch_table index) table Invalid answer → Branched old new index table answer
 branched old new index table answer sound (inl (between, edges, takes, builds)) =
     record {
-      loans = record { func = builds.loans.func ∙ takes.sets.call.loans.func; ctx = builds.loans.ctx ∙ takes.sets.call.loans.ctx };
+      loans = record { func = builds.loans.func ∙ takes.sets.call.loans.func; ctx = builds.loans.ctx ∙ takes.sets.call.loans.ctx; region = builds.loans.region ∙ takes.sets.call.loans.region };
       failed = (
         λ is. let between_failed : between.failed ≡ true = builds.failed.0 is in let fine : between.failed ≡ false = takes.sets.call.fails in let no_way : ⊥ = cc in absurd no_way,
         λ failed. let no_way : ⊥ = cc in absurd no_way,
@@ -314,7 +314,7 @@ branched old new index table answer sound (inr (error, takes, is)) =
 -- AFTER THE CALLS ---------------------------------------------------------------------------------------------------------
 
 -- an edge was made
-pub edge-ready : TableCallsAddNothing → {naming : Naming} {declared : SignatureShape} (calls : List AnsweredCall) (old new : FunctionBuilder) (answers : List Answer) (edge : TableEdge) (found made : BlockCall)
+pub edge-ready : {R : Type 0} → TableCallsAddNothing → {naming : Naming} {declared : SignatureShape} (calls : List AnsweredCall) (old new : FunctionBuilder R) (answers : List Answer) (edge : TableEdge) (found made : BlockCall)
     → IsReady naming declared calls old answers → IsEdge old answers edge found → made ≡ found → MakesEdge found.block found.args old new (Ok made)
     → IsReadyAfter naming declared calls (MakeEdge (table_edge_of naming edge)) new answers (answer.Edge made)
 edge-ready law {naming} {declared} calls old new answers edge found made ready is same makes = (
@@ -327,7 +327,7 @@ edge-ready law {naming} {declared} calls old new answers edge found made ready i
     call = record { request = MakeEdge (table_edge_of naming edge); numbers = 0 ∷ [] }
 
     stands : StandsFor declared (calls ++ call ∷ []) new
-    stands = law.edge declared calls new (table_edge_of naming edge) 0 (makes.sets.stands declared calls ready.stands)
+    stands = law.edge declared calls new.func.now new.ctx.now.parts new.position (table_edge_of naming edge) 0 (makes.sets.stands declared calls ready.stands)
 
     there : (other : BlockCall) → ◌≡◌ {A = Answer} (answer.Edge made) (answer.Edge other)
         → (e : meaning.Edge named.Name named.Name) × (edge_named (ledger_of (calls ++ call ∷ [])) (named.answer_of (length calls) 0) ≡ Some e) × NamesEdge (calls ++ call ∷ []) e other
@@ -350,7 +350,7 @@ edge-ready law {naming} {declared} calls old new answers edge found made ready i
     tables = tables-still calls call old new answers ready stands refl makes.grows.6
 
 -- a table was made
-pub table-ready : TableCallsAddNothing → {naming : Naming} {declared : SignatureShape} (calls : List AnsweredCall) (old new : FunctionBuilder) (answers : List Answer) (default : Name) (entries : List Name)
+pub table-ready : {R : Type 0} → TableCallsAddNothing → {naming : Naming} {declared : SignatureShape} (calls : List AnsweredCall) (old new : FunctionBuilder R) (answers : List Answer) (default : Name) (entries : List Name)
     (edges : List BlockCall) (number : ℕ) → IsReady naming declared calls old answers → map (edge_at answers) (default ∷ entries) ≡ map Some edges → CreatesJumpTable edges old new (Ok number)
     → IsReadyAfter naming declared calls (MakeJumpTable (naming default) (map naming entries)) new answers (answer.Entry (entry.JumpTable number))
 table-ready law {naming} {declared} calls old new answers default entries edges number ready found creates = (
@@ -368,7 +368,7 @@ table-ready law {naming} {declared} calls old new answers default entries edges 
     counts = creates.number ∙ sym (as-many (NamesEdges calls) (ledger_of calls).jump_tables old.func.now.tables.jump_tables ready.tables)
 
     stands : StandsFor declared (calls ++ call ∷ []) new
-    stands = law.table declared calls new (naming default) (map naming entries) number counts (creates.sets.stands declared calls ready.stands)
+    stands = law.table declared calls new.func.now new.ctx.now.parts new.position (naming default) (map naming entries) number counts (creates.sets.stands declared calls ready.stands)
 
     tables : TablesAgree (NamesEdges (calls ++ call ∷ [])) (ledger_of (calls ++ call ∷ [])).jump_tables new.func.now.tables.jump_tables
     tables =
@@ -381,10 +381,10 @@ table-ready law {naming} {declared} calls old new answers default entries edges 
         (edges-names calls old answers ready (default ∷ entries) edges found))))
 
 -- a table served a branch
-pub branch-ready : RequestsAskForTheirShapes → {naming : Naming} {declared : SignatureShape} (calls : List AnsweredCall) (old new : FunctionBuilder) (answers : List Answer) (index : Name) (value table inst : ℕ)
+pub branch-ready : {R : Type 0} → RequestsAskForTheirShapes → {naming : Naming} {declared : SignatureShape} (calls : List AnsweredCall) (old new : FunctionBuilder R) (answers : List Answer) (index : Name) (value table inst : ℕ)
     → IsReady naming declared calls old answers → value_of old.func.now answers index ≡ Some value → Branched old new value table (Ok inst)
     → IsReadyAfter naming declared calls (br_table (ledger_of calls) (naming index) table) new answers (answer.Inst inst)
-branch-ready shapes {naming} {declared} calls old new answers index value table inst ready found branch = (
+branch-ready {R} shapes {naming} {declared} calls old new answers index value table inst ready found branch = (
   numbers_of new inst,
   ready-answered calls call old new answers (answer.Inst inst) ready stands ([], (inst_at new.func.now inst).results, refl, refl) (λ made same. let no_way : ⊥ = cc in absurd no_way) tables
       (exceptions-still calls call old new answers ready stands exceptions-left (branch.builds.grows.8 ∙ ap (λ (f : Body). f.tables.exception_tables) branch.takes.sets.function)),
@@ -393,7 +393,7 @@ branch-ready shapes {naming} {declared} calls old new answers index value table 
     call : AnsweredCall
     call = record { request = br_table (ledger_of calls) (naming index) table; numbers = numbers_of new inst }
 
-    between : FunctionBuilder
+    between : FunctionBuilder R
     between = branch.between
 
     taken : StandsFor declared calls between
@@ -404,7 +404,7 @@ branch-ready shapes {naming} {declared} calls old new answers index value table 
 
     stands : StandsFor declared (calls ++ call ∷ []) new
     stands =
-        let asked = (shapes calls between.func.now between.ctx.now between.position taken.ledger).br_table (naming index) value table edges.0 branch.edges
+        let asked = (shapes calls between.func.now between.ctx.now.parts between.position taken.ledger).br_table (naming index) value table edges.0 branch.edges
         (value-found calls old answers ready index value found) edges.1 edges.2 in
         subst (λ (r : Request). StandsFor declared (calls ++ record { request = r; numbers = numbers_of new inst } ∷ []) new) (sym asked.2)
         (branch.builds.stands declared calls asked.0 asked.1 taken asked.3)

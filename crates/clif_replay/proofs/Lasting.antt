@@ -153,7 +153,7 @@ agree-on {A} {B} Agree More stays (table ∷ tables) (other ∷ made) agrees = (
 
 -- TABLES AS CALLS FOLLOW ------------------------------------------------------------------------------------------------
 
-module _ (reads : LedgerIsReadByNumber) {declared : SignatureShape} (calls added : List AnsweredCall) (old new : FunctionBuilder)
+module _ {R : Type 0} (reads : LedgerIsReadByNumber) {declared : SignatureShape} (calls added : List AnsweredCall) (old new : FunctionBuilder R)
     (stands : StandsFor declared calls old) (after : StandsFor declared (calls ++ added) new) where
   pub tables-stay : (tables : List (Option (List (Edge Name Name)))) (made : List (Option (List BlockCall))) → TablesAgree (NamesEdges calls) tables made
       → TablesAgree (NamesEdges (calls ++ added)) tables made

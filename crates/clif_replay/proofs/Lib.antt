@@ -14,6 +14,7 @@ pub mod Making
 pub mod Asking
 pub mod JumpTables
 pub mod Throwing
+mod FirstRegions
 pub mod Replays
 pub mod Notes
 pub mod Changes

@@ -32,21 +32,21 @@ use Rattle.clif_resolution.proofs.Options.{get-below}
 use Rattle.clif_replay.specs.Requests.{Naming}
 
 -- the request is allowed in each ledger with which the builder agrees, or in none
-abbrev pub Judges : (Naming → SignatureShape → Ledger → Request) → FunctionBuilder → List Answer → Bool → Type 0
+abbrev pub Judges : {R : Type 0} → (Naming → SignatureShape → Ledger → Request) → FunctionBuilder R → List Answer → Bool → Type 0
 Judges asks b answers allowed =
     (naming : Naming) (declared : SignatureShape) (calls : List AnsweredCall) → IsReady naming declared calls b answers → allows (ledger_of calls) (asks naming declared (ledger_of calls)) ≡ allowed
 
-pub loans-stay : (b : FunctionBuilder) → SameLoans b b
-loans-stay b = record { func = refl; ctx = refl }
+pub loans-stay : {R : Type 0} (b : FunctionBuilder R) → SameLoans b b
+loans-stay b = record { func = refl; ctx = refl; region = refl }
 
 -- the request isn't allowed, and its variable is to blame for that, or isn't
-abbrev pub Denies : (Naming → SignatureShape → Ledger → Request) → Bool → FunctionBuilder → List Answer → Bool → Type 0
+abbrev pub Denies : {R : Type 0} → (Naming → SignatureShape → Ledger → Request) → Bool → FunctionBuilder R → List Answer → Bool → Type 0
 Denies asks tried b answers blamed =
     (naming : Naming) (declared : SignatureShape) (calls : List AnsweredCall) → IsReady naming declared calls b answers
     → (allows (ledger_of calls) (asks naming declared (ledger_of calls)) ≡ false) × ((tried && blames_variable (ledger_of calls) (asks naming declared (ledger_of calls))) ≡ blamed)
 
 -- it isn't allowed, and isn't refused either
-pub made-denied : {asks : Naming → SignatureShape → Ledger → Request} {tried : Bool} {Meets : Type 0} {types : List «Type»} {why : Condition} (b : FunctionBuilder) (answers : List Answer) → Denies asks tried b answers false
+pub made-denied : {R : Type 0} {asks : Naming → SignatureShape → Ledger → Request} {tried : Bool} {Meets : Type 0} {types : List «Type»} {why : Condition} (b : FunctionBuilder R) (answers : List Answer) → Denies asks tried b answers false
     → Makes asks tried Meets types b b answers (Err (error.Misuse why))
 made-denied b answers denies = record {
   loans = loans-stay b;
@@ -66,12 +66,12 @@ made-denied b answers denies = record {
     no-full why same = cc
 
 -- it isn't allowed, and isn't only tried
-pub made-misuse : {asks : Naming → SignatureShape → Ledger → Request} {Meets : Type 0} {types : List «Type»} {why : Condition} (b : FunctionBuilder) (answers : List Answer) → Judges asks b answers false
+pub made-misuse : {R : Type 0} {asks : Naming → SignatureShape → Ledger → Request} {Meets : Type 0} {types : List «Type»} {why : Condition} (b : FunctionBuilder R) (answers : List Answer) → Judges asks b answers false
     → Makes asks false Meets types b b answers (Err (error.Misuse why))
 made-misuse b answers judges = made-denied b answers (λ naming declared calls ready. (judges naming declared calls ready, refl))
 
 -- it was tried, and the builder refused it because of its variable
-pub made-refusal : {asks : Naming → SignatureShape → Ledger → Request} {Meets : Type 0} {types : List «Type»} {why : Condition} (old new : FunctionBuilder) (answers : List Answer) → SameLoans old new → Denies asks true old answers true
+pub made-refusal : {R : Type 0} {asks : Naming → SignatureShape → Ledger → Request} {Meets : Type 0} {types : List «Type»} {why : Condition} (old new : FunctionBuilder R) (answers : List Answer) → SameLoans old new → Denies asks true old answers true
     → Makes asks true Meets types old new answers (Err (error.Refused why))
 made-refusal old new answers loans denies = record {
   loans = loans;
@@ -92,8 +92,8 @@ pub answered-sound : {T : Type 0} (failed : Bool) (told : Result T BuildError) (
 answered-sound failed told x fails was = fails ∙ ap is_err was
 
 -- it was made
-pub made-answer : {asks : Naming → SignatureShape → Ledger → Request} {tried : Bool} {Meets : Type 0} {types : List «Type»} (old new : FunctionBuilder) (answers : List Answer) (a : Answer)
-    → SameLoans old new → new.func.now.name ≡ old.func.now.name → new.failed ≡ false → new.ctx.now.variables ≡ types → Judges asks old answers true
+pub made-answer : {R : Type 0} {asks : Naming → SignatureShape → Ledger → Request} {tried : Bool} {Meets : Type 0} {types : List «Type»} (old new : FunctionBuilder R) (answers : List Answer) (a : Answer)
+    → SameLoans old new → new.func.now.name ≡ old.func.now.name → new.failed ≡ false → new.ctx.now.parts.variables ≡ types → Judges asks old answers true
     → ((naming : Naming) (declared : SignatureShape) (calls : List AnsweredCall) → IsReady naming declared calls old answers → IsReadyAfter naming declared calls (asks naming declared (ledger_of calls)) new answers a)
     → Makes asks tried Meets types old new answers (Ok a)
 made-answer old new answers a loans name sound variables judges ready = record {
@@ -127,7 +127,7 @@ judged-from allowed refused build.Full is sound = is refl
 judged-from allowed refused build.Failed is sound = absurd (sound refl)
 
 -- the builder refused it, which hadn't failed; where a table was full it may be made
-pub made-failed : {T : Type 0} {asks : Naming → SignatureShape → Ledger → Request} {tried : Bool} {Meets : Type 0} {types : List «Type»} (old new : FunctionBuilder) (answers : List Answer) (told : Result T BuildError)
+pub made-failed : {T : Type 0} {R : Type 0} {asks : Naming → SignatureShape → Ledger → Request} {tried : Bool} {Meets : Type 0} {types : List «Type»} (old new : FunctionBuilder R) (answers : List Answer) (told : Result T BuildError)
     (e : BuildError) (y : CallError) (r : Result Answer CallError) → told ≡ Err e → r ≡ Err y → y ≡ call_error_of e → SameLoans old new → old.failed ≡ false
     → ((told ≡ Err build.Failed) ↔ IsTrue old.failed) → (told ≡ Err build.Full → Judges asks old answers true) → (told ≡ Err build.Full → Meets)
     → Makes asks tried Meets types old new answers r
@@ -147,7 +147,7 @@ made-failed {asks = asks} {tried = tried} {Meets = Meets} {types = types} old ne
     not-failed same = let has : old.failed ≡ true = failed.0 same in cc
 
 -- the same of one that may be made
-pub made-refused : {T : Type 0} {asks : Naming → SignatureShape → Ledger → Request} {tried : Bool} {Meets : Type 0} {types : List «Type»} (old new : FunctionBuilder) (answers : List Answer) (told : Result T BuildError)
+pub made-refused : {T : Type 0} {R : Type 0} {asks : Naming → SignatureShape → Ledger → Request} {tried : Bool} {Meets : Type 0} {types : List «Type»} (old new : FunctionBuilder R) (answers : List Answer) (told : Result T BuildError)
     (e : BuildError) (y : CallError) (r : Result Answer CallError) → told ≡ Err e → r ≡ Err y → y ≡ call_error_of e → SameLoans old new → old.failed ≡ false
     → ((told ≡ Err build.Failed) ↔ IsTrue old.failed) → Judges asks old answers true → (told ≡ Err build.Full → Meets)
     → Makes asks tried Meets types old new answers r
@@ -155,7 +155,7 @@ made-refused old new answers told e y r was is gives loans sound failed judges f
     made-failed old new answers told e y r was is gives loans sound failed (λ same. judges) full
 
 -- memory was refused before the builder was called
-pub made-memory : {asks : Naming → SignatureShape → Ledger → Request} {tried : Bool} {Meets : Type 0} {types : List «Type»} (b : FunctionBuilder) (answers : List Answer)
+pub made-memory : {R : Type 0} {asks : Naming → SignatureShape → Ledger → Request} {tried : Bool} {Meets : Type 0} {types : List «Type»} (b : FunctionBuilder R) (answers : List Answer)
     → Makes asks tried Meets types b b answers (Err error.Memory)
 made-memory b answers = record {
   loans = loans-stay b;
@@ -174,13 +174,13 @@ made-memory b answers = record {
     no-refusal : (why : Condition) → ◌≡◌ {A = Result Answer CallError} (Err error.Memory) (Err (error.Refused why)) → ⊥
     no-refusal why same = cc
 
-pub memory-told : {asks : Naming → SignatureShape → Ledger → Request} {tried : Bool} {Meets : Type 0} {types : List «Type»} (b : FunctionBuilder) (answers : List Answer)
+pub memory-told : {R : Type 0} {asks : Naming → SignatureShape → Ledger → Request} {tried : Bool} {Meets : Type 0} {types : List «Type»} (b : FunctionBuilder R) (answers : List Answer)
     (e : CallError) (r : Result Answer CallError) → r ≡ Err e → e ≡ error.Memory → Makes asks tried Meets types b b answers r
 memory-told {asks = asks} {tried = tried} {Meets = Meets} {types = types} b answers e r is gives =
     subst (λ (x : Result Answer CallError). Makes asks tried Meets types b b answers x) (sym (is ∙ ap Err gives)) (made-memory b answers)
 
 -- what it names isn't there, or memory was refused
-pub made-missed : {X : Type 0} {asks : Naming → SignatureShape → Ledger → Request} {Meets : Type 0} {types : List «Type»} (b : FunctionBuilder) (answers : List Answer)
+pub made-missed : {X : Type 0} {R : Type 0} {asks : Naming → SignatureShape → Ledger → Request} {Meets : Type 0} {types : List «Type»} (b : FunctionBuilder R) (answers : List Answer)
     (v : Result X CallError) (r : Result Answer CallError) (e : CallError) → v ≡ Err e → r ≡ Err e → ((why : Condition) → v ≡ Err (error.Misuse why) → Judges asks b answers false) → ((why : Condition) → v ≢ Err (error.Refused why))
     → v ≢ Err error.Full → Makes asks false Meets types b b answers r
 made-missed {asks = asks} {Meets = Meets} {types = types} b answers v r e was is judges never_refused never_full =
@@ -192,7 +192,7 @@ made-missed {asks = asks} {Meets = Meets} {types = types} b answers v r e was is
     by error.Full was = absurd (never_full was)
     by error.Memory was = made-memory b answers
 
-pub made-misused : {X : Type 0} {Found : X → Type 0} {there : Bool} {asks : Naming → SignatureShape → Ledger → Request} {Meets : Type 0} {types : List «Type»} (b : FunctionBuilder) (answers : List Answer)
+pub made-misused : {X : Type 0} {R : Type 0} {Found : X → Type 0} {there : Bool} {asks : Naming → SignatureShape → Ledger → Request} {Meets : Type 0} {types : List «Type»} (b : FunctionBuilder R) (answers : List Answer)
     (v : Result X CallError) (r : Result Answer CallError) (e : CallError) → v ≡ Err e → r ≡ Err e → Finds Found there v → (there ≡ false → Judges asks b answers false)
     → Makes asks false Meets types b b answers r
 made-misused b answers v r e was is finds judges = made-missed b answers v r e was is (λ why misuse. judges (finds.misuse why misuse)) finds.never_refused finds.never_full
@@ -203,12 +203,12 @@ full-either f (inl insts) = inr insts
 full-either f (inr values) = inl values
 
 -- A builder that was changed before its call was made, but stands for the same calls, made the call.
-pub made-between : {asks : Naming → SignatureShape → Ledger → Request} {tried : Bool} {Meets Met : Type 0} {types : List «Type»} (old between new : FunctionBuilder) (answers : List Answer) (r : Result Answer CallError)
+pub made-between : {R : Type 0} {asks : Naming → SignatureShape → Ledger → Request} {tried : Bool} {Meets Met : Type 0} {types : List «Type»} (old between new : FunctionBuilder R) (answers : List Answer) (r : Result Answer CallError)
     → SameLoans old between → between.func.now.name ≡ old.func.now.name
     → ((naming : Naming) (declared : SignatureShape) (calls : List AnsweredCall) → IsReady naming declared calls old answers → IsReady naming declared calls between answers)
     → (Met → Meets) → Makes asks tried Met types between new answers r → Makes asks tried Meets types old new answers r
 made-between old between new answers r loans name goes_on meets made = record {
-  loans = record { func = made.loans.func ∙ loans.func; ctx = made.loans.ctx ∙ loans.ctx };
+  loans = record { func = made.loans.func ∙ loans.func; ctx = made.loans.ctx ∙ loans.ctx; region = made.loans.region ∙ loans.region };
   name = named r made.name;
   ready = λ naming declared calls ready. made.ready naming declared calls (goes_on naming declared calls ready);
   judged = λ naming declared calls ready. made.judged naming declared calls (goes_on naming declared calls ready);
@@ -262,17 +262,17 @@ constructs-inserted f g block = by (stands_in block f.layout)
     }
 
 -- a use of a variable did, in the current block
-constructs-met : {T : Type 0} (TableIsFull : Body → Type 0) (b : FunctionBuilder) (g : Body) (told : Result T BuildError) → HasCurrent b
+constructs-met : {T : Type 0} {R : Type 0} (TableIsFull : Body → Type 0) (b : FunctionBuilder R) (g : Body) (told : Result T BuildError) → HasCurrent b
     → IfSome b.position (λ block. told ≡ Err build.Full → OnlyConstructs (inserted_in b.func.now block) g) → told ≡ Err build.Full → TableIsFull g
     → ConstructsUntil TableIsFull b.func.now
 constructs-met TableIsFull b g told current made full is_full =
     (g, constructs-inserted b.func.now g current.0 (subst (λ (o : Option ℕ). IfSome o (λ block. told ≡ Err build.Full → OnlyConstructs (inserted_in b.func.now block) g)) current.1 made full), is_full)
 
-pub use-met : {T : Type 0} (b : FunctionBuilder) (g : Body) (told : Result T BuildError) (variable : ℕ) → variable < length b.ctx.now.variables → HasCurrent b
+pub use-met : {T : Type 0} {R : Type 0} (b : FunctionBuilder R) (g : Body) (told : Result T BuildError) (variable : ℕ) → variable < length b.ctx.now.parts.variables → HasCurrent b
     → IfSome b.position (λ block. told ≡ Err build.Full → OnlyConstructs (inserted_in b.func.now block) g) → told ≡ Err build.Full
-    → ((ty : «Type») → slice_get b.ctx.now.variables variable ≡ Some ty → told ≡ Err build.Full → UseIsFull ty g) → UseMeetsFullTable variable b.func.now b.ctx.now
+    → ((ty : «Type») → slice_get b.ctx.now.parts.variables variable ≡ Some ty → told ≡ Err build.Full → UseIsFull ty g) → UseMeetsFullTable variable b.func.now b.ctx.now.parts
 use-met b g told variable declared current made full is_full =
-    let at = get-below b.ctx.now.variables variable declared in
+    let at = get-below b.ctx.now.parts.variables variable declared in
     (at.0, at.1, constructs-met (UseIsFull at.0) b g told current made full (is_full at.0 at.1 full))
 
 -- the parameters that wait in one block wait in some block

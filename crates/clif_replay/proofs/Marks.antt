@@ -63,40 +63,40 @@ same-mark states c variable agree =
         ap (λ (test : Bool). fits_stack_map state.ty && not test) told
         ∙ ap (λ (o : Option «Type»). fits_declared o && (is_some o && not touched)) typed
 
-pub mark-same : {naming : Naming} {declared : SignatureShape} (calls : List AnsweredCall) (b : FunctionBuilder) (answers : List Answer) → IsReady naming declared calls b answers
+pub mark-same : {R : Type 0} {naming : Naming} {declared : SignatureShape} (calls : List AnsweredCall) (b : FunctionBuilder R) (answers : List Answer) → IsReady naming declared calls b answers
     → (variable : ℕ) → allows (ledger_of calls) (NeedStackMap (OfVariable variable)) ≡ can_mark b variable
-mark-same calls b answers ready variable = same-mark (ledger_of calls).variables b.ctx.now variable ready.stands.ledger.variables
+mark-same calls b answers ready variable = same-mark (ledger_of calls).variables b.ctx.now.parts variable ready.stands.ledger.variables
 
 -- what the builder asks of the variable
-pub mark-fits : (b : FunctionBuilder) (variable : ℕ) → can_mark b variable ≡ true → VariableFits b.ctx.now variable
+pub mark-fits : {R : Type 0} (b : FunctionBuilder R) (variable : ℕ) → can_mark b variable ≡ true → VariableFits b.ctx.now.parts variable
 mark-fits b variable may =
-    by (slice_get b.ctx.now.variables variable) refl (and_parts (fits_declared (slice_get b.ctx.now.variables variable)) (is_untouched b.ctx.now variable) may).0
+    by (slice_get b.ctx.now.parts.variables variable) refl (and_parts (fits_declared (slice_get b.ctx.now.parts.variables variable)) (is_untouched b.ctx.now.parts variable) may).0
   where
-    by : (o : Option «Type») → slice_get b.ctx.now.variables variable ≡ o → fits_declared o ≡ true → VariableFits b.ctx.now variable
+    by : (o : Option «Type») → slice_get b.ctx.now.parts.variables variable ≡ o → fits_declared o ≡ true → VariableFits b.ctx.now.parts variable
     by None at fits = let no_way : ⊥ = cc in absurd no_way
     by (Some ty) at fits = record { ty = ty; declared = at; fits = type-fits ty fits }
 
-pub mark-unused : {naming : Naming} {declared : SignatureShape} (calls : List AnsweredCall) (b : FunctionBuilder) (answers : List Answer) → IsReady naming declared calls b answers
-    → (variable : ℕ) → can_mark b variable ≡ true → IsUnused b.ctx.now variable
+pub mark-unused : {R : Type 0} {naming : Naming} {declared : SignatureShape} (calls : List AnsweredCall) (b : FunctionBuilder R) (answers : List Answer) → IsReady naming declared calls b answers
+    → (variable : ℕ) → can_mark b variable ≡ true → IsUnused b.ctx.now.parts variable
 mark-unused calls b answers ready variable may =
-    let untouched = (and_parts (fits_declared (slice_get b.ctx.now.variables variable)) (is_untouched b.ctx.now variable) may).1 in
-    let free = not-true (has b.ctx.now.touched variable) (and_parts (is_some (slice_get b.ctx.now.variables variable)) (not (has b.ctx.now.touched variable)) untouched).1 in
+    let untouched = (and_parts (fits_declared (slice_get b.ctx.now.parts.variables variable)) (is_untouched b.ctx.now.parts variable) may).1 in
+    let free = not-true (has b.ctx.now.parts.touched variable) (and_parts (is_some (slice_get b.ctx.now.parts.variables variable)) (not (has b.ctx.now.parts.touched variable)) untouched).1 in
     (read calls b answers ready).unused variable (ready.stands.ledger.variables.touched variable ∙ free)
 
 -- VALUES --------------------------------------------------------------------------------------------------------------------
 
-pub record-none : {naming : Naming} {declared : SignatureShape} (calls : List AnsweredCall) (b : FunctionBuilder) (answers : List Answer) → IsReady naming declared calls b answers
+pub record-none : {R : Type 0} {naming : Naming} {declared : SignatureShape} (calls : List AnsweredCall) (b : FunctionBuilder R) (answers : List Answer) → IsReady naming declared calls b answers
     → (name : Name) → value_of b.func.now answers name ≡ None → allows (ledger_of calls) (NeedStackMap (OfValue (naming name))) ≡ false
 record-none {naming} calls b answers ready name missing = let none = value-missing calls b answers ready name missing in rw none refl
 
-pub record-some : {naming : Naming} {declared : SignatureShape} (calls : List AnsweredCall) (b : FunctionBuilder) (answers : List Answer) → IsReady naming declared calls b answers
+pub record-some : {R : Type 0} {naming : Naming} {declared : SignatureShape} (calls : List AnsweredCall) (b : FunctionBuilder R) (answers : List Answer) → IsReady naming declared calls b answers
     → (name : Name) (value : ℕ) → value_of b.func.now answers name ≡ Some value → allows (ledger_of calls) (NeedStackMap (OfValue (naming name))) ≡ can_record b value
 record-some {naming} calls b answers ready name value found =
     let there = (value-found calls b answers ready name value found).is_value in
     let typed = value-type-same calls b answers ready name value found in
     ap (λ (test : Bool). test && fits_stack_map (or_invalid (type_of (ledger_of calls) (naming name)))) there ∙ ap (λ (o : Option «Type»). fits_stack_map (or_invalid o)) typed
 
-pub record-fits : {naming : Naming} {declared : SignatureShape} (calls : List AnsweredCall) (b : FunctionBuilder) (answers : List Answer) → IsReady naming declared calls b answers
+pub record-fits : {R : Type 0} {naming : Naming} {declared : SignatureShape} (calls : List AnsweredCall) (b : FunctionBuilder R) (answers : List Answer) → IsReady naming declared calls b answers
     → (name : Name) (value : ℕ) → value_of b.func.now answers name ≡ Some value → can_record b value ≡ true → ValueFits b value
 record-fits calls b answers ready name value found may =
     record { exists = value-exists calls b answers ready name value found; fits = type-fits (value_at b.func.now value).ty may }

@@ -18,18 +18,18 @@ use Rattle.clif_replay.specs.Requests.{Naming}
 use Rattle.clif_replay.proofs.ReadyLaws.{ready-more, value-found, value-missing}
 
 -- the note answers nothing
-pub note-ready : NotesAddNothing → {naming : Naming} {declared : SignatureShape} (calls : List AnsweredCall) (old new : FunctionBuilder) (answers : List Answer) (inside : Bool) (values : List meaning.Name)
+pub note-ready : {R : Type 0} → NotesAddNothing → {naming : Naming} {declared : SignatureShape} (calls : List AnsweredCall) (old new : FunctionBuilder R) (answers : List Answer) (inside : Bool) (values : List meaning.Name)
     → IsReady naming declared calls old answers → StandsFor declared calls new → KeepsTables old new
     → IsReadyAfter naming declared calls (Annotate inside values) new answers answer.Nothing
 note-ready law {declared} calls old new answers inside values ready stands tables =
-    ([], ready-more calls _ old new answers answer.Nothing ready tt tables (law.stands declared calls new inside values stands) (refl, refl))
+    ([], ready-more calls _ old new answers answer.Nothing ready tt tables (law.stands declared calls new.func.now new.ctx.now.parts new.position inside values stands) (refl, refl))
 
 -- its value is one in the ledger where its name leads to one here
-pub note-none : {naming : Naming} {declared : SignatureShape} (calls : List AnsweredCall) (b : FunctionBuilder) (answers : List Answer) → IsReady naming declared calls b answers
+pub note-none : {R : Type 0} {naming : Naming} {declared : SignatureShape} (calls : List AnsweredCall) (b : FunctionBuilder R) (answers : List Answer) → IsReady naming declared calls b answers
     → (name : Name) → value_of b.func.now answers name ≡ None → allows (ledger_of calls) (Annotate false (naming name ∷ [])) ≡ false
 note-none calls b answers ready name missing = ap (λ (there : Bool). there && true) (value-missing calls b answers ready name missing)
 
-pub note-some : {naming : Naming} {declared : SignatureShape} (calls : List AnsweredCall) (b : FunctionBuilder) (answers : List Answer) → IsReady naming declared calls b answers
+pub note-some : {R : Type 0} {naming : Naming} {declared : SignatureShape} (calls : List AnsweredCall) (b : FunctionBuilder R) (answers : List Answer) → IsReady naming declared calls b answers
     → (name : Name) (value : ℕ) → value_of b.func.now answers name ≡ Some value → allows (ledger_of calls) (Annotate false (naming name ∷ [])) ≡ true
 note-some calls b answers ready name value found =
     ap (λ (there : Bool). there && true) (value-found calls b answers ready name value found).is_value

@@ -66,7 +66,7 @@ told-number table (answer.Entry made) given numbers zero is =
 told-number table (answer.Entry made) given numbers (suc index) is =
     ap (λ (xs : List Answered). number_told table xs (suc index)) is.2 ∙ sym (past index (number_in table made) None)
 
-module _ {naming : Naming} {declared : SignatureShape} (calls : List AnsweredCall) (b : FunctionBuilder) (answers : List Answer) (ready : IsReady naming declared calls b answers) where
+module _ {R : Type 0} {naming : Naming} {declared : SignatureShape} (calls : List AnsweredCall) (b : FunctionBuilder R) (answers : List Answer) (ready : IsReady naming declared calls b answers) where
   -- a name leads to the same entry
   entry-same : (table : NamedTable) (name : Name) → entry_named table (ledger_of calls) (naming name) ≡ entry_of table answers name
   entry-same table name = by (slice_get answers name.place) refl
@@ -94,7 +94,7 @@ module _ {naming : Naming} {declared : SignatureShape} (calls : List AnsweredCal
   numbers-same i table name = unwrap_or (entry-same table name i) (count-same table i)
 
 -- A call was made that asked for this with the builder's numbers, or wasn't: it asked for it with the ledger's.
-pub numbered : (asks : Numbers → Naming → SignatureShape → Ledger → Request) {tried : Bool} {Meets : Type 0} {types : List «Type»} (old new : FunctionBuilder) (answers : List Answer) (result : Result Answer CallError)
+pub numbered : {R : Type 0} (asks : Numbers → Naming → SignatureShape → Ledger → Request) {tried : Bool} {Meets : Type 0} {types : List «Type»} (old new : FunctionBuilder R) (answers : List Answer) (result : Result Answer CallError)
     → Makes (λ naming declared ledger. asks (numbers_at old.func.now answers) naming declared ledger) tried Meets types old new answers result
     → Makes (λ naming declared ledger. asks (numbers_in naming ledger) naming declared ledger) tried Meets types old new answers result
 numbered asks {tried} old new answers result made = record {

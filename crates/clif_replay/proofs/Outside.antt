@@ -48,7 +48,7 @@ in-order false true false = refl
 in-order false false values = refl
 
 -- it is allowed where it may be made
-pub outside-same : {naming : Naming} {declared : SignatureShape} (calls : List AnsweredCall) (b : FunctionBuilder) (answers : List Answer) → IsReady naming declared calls b answers
+pub outside-same : {R : Type 0} {naming : Naming} {declared : SignatureShape} (calls : List AnsweredCall) (b : FunctionBuilder R) (answers : List Answer) → IsReady naming declared calls b answers
     → (called : OutsideCall) → allows (ledger_of calls) (outside_request (numbers_at b.func.now answers) naming (ledger_of calls) called)
     ≡ can_call b answers called
 outside-same calls b answers ready (outside.Call function args) =
@@ -63,17 +63,17 @@ outside-same calls b answers ready (outside.CallIndirect signature callee args) 
     rw (values, opens, tables) (in-order (has_entry b.func.now.tables (ASignatureRef (numbers_at b.func.now answers Signatures signature))) (is_open b) (all_values b.func.now answers (callee ∷ args.items)))
 
 -- it asks for its shape
-pub outside-asked : RequestsAskForTheirShapes → {naming : Naming} {declared : SignatureShape} (calls : List AnsweredCall) (b : FunctionBuilder) (answers : List Answer) → IsReady naming declared calls b answers
+pub outside-asked : {R : Type 0} → RequestsAskForTheirShapes → {naming : Naming} {declared : SignatureShape} (calls : List AnsweredCall) (b : FunctionBuilder R) (answers : List Answer) → IsReady naming declared calls b answers
     → (numbers : Numbers) (called : OutsideCall) (values : List ℕ) → map (value_of b.func.now answers) (operands_of called) ≡ map Some values
     → AsksForShape calls b.func.now (outside_request numbers naming (ledger_of calls) called) (outside_shape numbers called values) Invalid
 outside-asked shapes {naming} calls b answers ready numbers (outside.Call function args) values found =
-    (shapes calls b.func.now b.ctx.now b.position ready.stands.ledger).call_function (numbers Functions function) (map naming args.items) values
+    (shapes calls b.func.now b.ctx.now.parts b.position ready.stands.ledger).call_function (numbers Functions function) (map naming args.items) values
     (all-named calls b answers ready args.items values found)
 outside-asked shapes {naming} calls b answers ready numbers (outside.CallIndirect signature callee args) [] found = let no_way : ⊥ = cc in absurd no_way
 outside-asked shapes {naming} calls b answers ready numbers (outside.CallIndirect signature callee args) (address ∷ values) found =
     let here : value_of b.func.now answers callee ≡ Some address = cc in
     let rest : map (value_of b.func.now answers) args.items ≡ map Some values = cc in
-    (shapes calls b.func.now b.ctx.now b.position ready.stands.ledger).call_indirect (numbers Signatures signature) (naming callee) address (map naming args.items) values
+    (shapes calls b.func.now b.ctx.now.parts b.position ready.stands.ledger).call_indirect (numbers Signatures signature) (naming callee) address (map naming args.items) values
     (value-found calls b answers ready callee address here) (all-named calls b answers ready args.items values rest)
 
 -- its shape has these values alone, goes nowhere, and names what it calls
@@ -85,7 +85,7 @@ pub outside-contexts : (f : Body) (numbers : Numbers) (called : OutsideCall) (va
 outside-contexts f numbers (outside.Call function args) values k d inside = absurd (omega (arith, inside))
 outside-contexts f numbers (outside.CallIndirect signature callee args) values k d inside = absurd (omega (arith, inside))
 
-pub outside-edges : (b : FunctionBuilder) (numbers : Numbers) (called : OutsideCall) (values : List ℕ) → All (CanLead b) (destinations (outside_shape numbers called values))
+pub outside-edges : {R : Type 0} (b : FunctionBuilder R) (numbers : Numbers) (called : OutsideCall) (values : List ℕ) → All (CanLead b) (destinations (outside_shape numbers called values))
 outside-edges b numbers (outside.Call function args) values k d inside = absurd (omega (arith, inside))
 outside-edges b numbers (outside.CallIndirect signature callee args) values k d inside = absurd (omega (arith, inside))
 
@@ -107,17 +107,17 @@ imported-tested f answers called shape test found tells =
     ap (list_all (has_entry f.tables)) (sym (outside-entries (numbers_at f answers) called found.0) ∙ ap entries_of (sym found.2)) ∙ entries-tested f.tables (entries_of shape) test tells
 
 -- one that may be made stands in an open block, and what it calls was imported
-pub outside-open : (b : FunctionBuilder) (answers : List Answer) (called : OutsideCall) → can_call b answers called ≡ true → is_open b ≡ true
+pub outside-open : {R : Type 0} (b : FunctionBuilder R) (answers : List Answer) (called : OutsideCall) → can_call b answers called ≡ true → is_open b ≡ true
 outside-open b answers called may = (and_parts (is_open b) _ (and_parts _ (is_imported b.func.now answers called) may).0).0
 
-pub outside-imported : (b : FunctionBuilder) (answers : List Answer) (called : OutsideCall) (shape : InstructionData) → can_call b answers called ≡ true
+pub outside-imported : {R : Type 0} (b : FunctionBuilder R) (answers : List Answer) (called : OutsideCall) (shape : InstructionData) → can_call b answers called ≡ true
     → IsOutsideShape b.func.now answers called shape → All (EntryExists b.func.now.tables) (entries_of shape)
 outside-imported b answers called shape may found =
     subst (All (EntryExists b.func.now.tables)) (sym (ap entries_of found.2 ∙ outside-entries (numbers_at b.func.now answers) called found.0))
     (all-entries-exist b.func.now.tables (entries_of (outside_shape (numbers_at b.func.now answers) called [])) (and_parts _ (is_imported b.func.now answers called) may).1)
 
 -- what its shape names exists
-pub outside-exist : {naming : Naming} {declared : SignatureShape} (calls : List AnsweredCall) (b : FunctionBuilder) (answers : List Answer) → IsReady naming declared calls b answers
+pub outside-exist : {R : Type 0} {naming : Naming} {declared : SignatureShape} (calls : List AnsweredCall) (b : FunctionBuilder R) (answers : List Answer) → IsReady naming declared calls b answers
     → (called : OutsideCall) (shape : InstructionData) → IsOutsideShape b.func.now answers called shape
     → (k : ℕ) → k < length (operands shape) → slice_index (operands shape) k < length b.func.now.values
 outside-exist calls b answers ready called shape found =
@@ -139,7 +139,7 @@ is-answered numbers naming ledger (outside.Call function args) inst results = (_
 is-answered numbers naming ledger (outside.CallIndirect signature callee args) inst results = (_, _, refl, refl)
 
 -- it was made
-pub outside-ready : RequestsAskForTheirShapes → {naming : Naming} {declared : SignatureShape} (calls : List AnsweredCall) (old new : FunctionBuilder) (answers : List Answer) (called : OutsideCall)
+pub outside-ready : {R : Type 0} → RequestsAskForTheirShapes → {naming : Naming} {declared : SignatureShape} (calls : List AnsweredCall) (old new : FunctionBuilder R) (answers : List Answer) (called : OutsideCall)
     (shape : InstructionData) (inst : ℕ) → IsReady naming declared calls old answers → IsOutsideShape old.func.now answers called shape → Builds old new shape Invalid (Ok inst)
     → IsReadyAfter naming declared calls (outside_request (numbers_at old.func.now answers) naming (ledger_of calls) called) new answers (answer.Inst inst)
 outside-ready shapes {naming} {declared} calls old new answers called shape inst ready found done = (

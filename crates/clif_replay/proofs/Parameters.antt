@@ -81,7 +81,7 @@ are-answers n [] count same = (refl, refl)
 are-answers n (ty ∷ types) count same = (ty ∷ types, refl, refl, same)
 
 -- one more call was answered, which appended parameters
-pub params-ready : {naming : Naming} {declared : SignatureShape} (calls : List AnsweredCall) (old new : FunctionBuilder) (answers : List Answer) (request : Request) (b : ℕ) (params : List AbiParam) (count : ℕ) (a : Answer)
+pub params-ready : {R : Type 0} {naming : Naming} {declared : SignatureShape} (calls : List AnsweredCall) (old new : FunctionBuilder R) (answers : List Answer) (request : Request) (b : ℕ) (params : List AbiParam) (count : ℕ) (a : Answer)
     → IsReady naming declared calls old answers → LeavesTables request → KeepsTables old new
     → b < length old.func.now.blocks → new.func.now ≡ with_params old.func.now b (types_of params)
     → StandsFor declared (calls ++ record { request = request; numbers = numbers_from (length old.func.now.values) (types_of params) } ∷ []) new

@@ -53,7 +53,7 @@ named-in ledger name (x ∷ names) (k ∷ numbers) same there =
     by here later false is there = later cc
 
 -- a name that leads to no block isn't in the layout
-inserted-missing : {naming : Naming} {declared : SignatureShape} (calls : List AnsweredCall) (b : FunctionBuilder) (answers : List Answer) → IsReady naming declared calls b answers
+inserted-missing : {R : Type 0} {naming : Naming} {declared : SignatureShape} (calls : List AnsweredCall) (b : FunctionBuilder R) (answers : List Answer) → IsReady naming declared calls b answers
     → (name : Name) → block_of answers name ≡ None → is_inserted (ledger_of calls) (naming name) ≡ false
 inserted-missing {naming} calls b answers ready name missing =
     false_from_ne_true (is_inserted (ledger_of calls) (naming name)) (λ there.
@@ -62,18 +62,18 @@ inserted-missing {naming} calls b answers ready name missing =
     false≢true (sym (block-missing calls b answers ready name missing) ∙ ap is_some state.found))
 
 -- one that leads to a block is where the block is
-inserted-found : {naming : Naming} {declared : SignatureShape} (calls : List AnsweredCall) (b : FunctionBuilder) (answers : List Answer) → IsReady naming declared calls b answers
+inserted-found : {R : Type 0} {naming : Naming} {declared : SignatureShape} (calls : List AnsweredCall) (b : FunctionBuilder R) (answers : List Answer) → IsReady naming declared calls b answers
     → (name : Name) (block : ℕ) → block_of answers name ≡ Some block → is_inserted (ledger_of calls) (naming name) ≡ stands_in block b.func.now.layout
 inserted-found {naming} calls b answers ready name block found =
     let r = read calls b answers ready in
     r.inserted block (naming name) (r.named (naming name) block (block-found calls b answers ready name block found))
 
 -- `insert_block_after`
-pub insert-none : {naming : Naming} {declared : SignatureShape} (calls : List AnsweredCall) (b : FunctionBuilder) (answers : List Answer) → IsReady naming declared calls b answers
+pub insert-none : {R : Type 0} {naming : Naming} {declared : SignatureShape} (calls : List AnsweredCall) (b : FunctionBuilder R) (answers : List Answer) → IsReady naming declared calls b answers
     → (name behind : Name) → block_of answers name ≡ None → allows (ledger_of calls) (InsertBlockAfter (naming name) (naming behind)) ≡ false
 insert-none calls b answers ready name behind missing = let none = block-missing calls b answers ready name missing in rw none refl
 
-pub insert-nowhere : {naming : Naming} {declared : SignatureShape} (calls : List AnsweredCall) (b : FunctionBuilder) (answers : List Answer) → IsReady naming declared calls b answers
+pub insert-nowhere : {R : Type 0} {naming : Naming} {declared : SignatureShape} (calls : List AnsweredCall) (b : FunctionBuilder R) (answers : List Answer) → IsReady naming declared calls b answers
     → (name behind : Name) → block_of answers behind ≡ None → allows (ledger_of calls) (InsertBlockAfter (naming name) (naming behind)) ≡ false
 insert-nowhere {naming} calls b answers ready name behind missing =
     by (has_block (ledger_of calls) (naming name)) (is_inserted (ledger_of calls) (naming name)) (is_inserted (ledger_of calls) (naming behind))
@@ -84,7 +84,7 @@ insert-nowhere {naming} calls b answers ready name behind missing =
     by true false after is = is
     by false inside after is = refl
 
-pub insert-some : {naming : Naming} {declared : SignatureShape} (calls : List AnsweredCall) (b : FunctionBuilder) (answers : List Answer) → IsReady naming declared calls b answers
+pub insert-some : {R : Type 0} {naming : Naming} {declared : SignatureShape} (calls : List AnsweredCall) (b : FunctionBuilder R) (answers : List Answer) → IsReady naming declared calls b answers
     → (name behind : Name) (block after : ℕ) → block_of answers name ≡ Some block → block_of answers behind ≡ Some after
     → allows (ledger_of calls) (InsertBlockAfter (naming name) (naming behind)) ≡ can_insert b block after
 insert-some {naming} calls b answers ready name behind block after found found_behind =
@@ -96,10 +96,10 @@ insert-some {naming} calls b answers ready name behind block after found found_b
     by there inside behind_there s t first second third = rw (first, second, third) refl
 
 -- `set_cold_block`
-pub cold-none : {naming : Naming} {declared : SignatureShape} (calls : List AnsweredCall) (b : FunctionBuilder) (answers : List Answer) → IsReady naming declared calls b answers
+pub cold-none : {R : Type 0} {naming : Naming} {declared : SignatureShape} (calls : List AnsweredCall) (b : FunctionBuilder R) (answers : List Answer) → IsReady naming declared calls b answers
     → (name : Name) → block_of answers name ≡ None → allows (ledger_of calls) (SetColdBlock (naming name)) ≡ false
 cold-none calls b answers ready name missing = block-missing calls b answers ready name missing
 
-pub cold-some : {naming : Naming} {declared : SignatureShape} (calls : List AnsweredCall) (b : FunctionBuilder) (answers : List Answer) → IsReady naming declared calls b answers
+pub cold-some : {R : Type 0} {naming : Naming} {declared : SignatureShape} (calls : List AnsweredCall) (b : FunctionBuilder R) (answers : List Answer) → IsReady naming declared calls b answers
     → (name : Name) (block : ℕ) → block_of answers name ≡ Some block → allows (ledger_of calls) (SetColdBlock (naming name)) ≡ true
 cold-some calls b answers ready name block found = (block-found calls b answers ready name block found).is_block

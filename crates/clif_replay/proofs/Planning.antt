@@ -51,7 +51,7 @@ use Rattle.clif_resolution.proofs.Planning.{never-calls, entries-alike, all-entr
 
 -- THE CONDITION -----------------------------------------------------------------------------------------------------
 
-edges-same : {naming : Naming} {declared : SignatureShape} (calls : List AnsweredCall) (b : FunctionBuilder) (answers : List Answer) → IsReady naming declared calls b answers
+edges-same : {R : Type 0} {naming : Naming} {declared : SignatureShape} (calls : List AnsweredCall) (b : FunctionBuilder R) (answers : List Answer) → IsReady naming declared calls b answers
     → (edges : List Edge) → list_all (can_lead (ledger_of calls)) (map (edge_of naming) edges) ≡ list_all (may_lead b answers) edges
 edges-same {naming} calls b answers ready [] = refl
 edges-same {naming} calls b answers ready (edge ∷ edges) =
@@ -59,7 +59,7 @@ edges-same {naming} calls b answers ready (edge ∷ edges) =
     ∙ ap (λ (rest : Bool). may_lead b answers edge && rest) (edges-same calls b answers ready edges)
 
 -- the ledger's type of a name is that of its value
-type-same : {naming : Naming} {declared : SignatureShape} (calls : List AnsweredCall) (b : FunctionBuilder) (answers : List Answer) → IsReady naming declared calls b answers
+type-same : {R : Type 0} {naming : Naming} {declared : SignatureShape} (calls : List AnsweredCall) (b : FunctionBuilder R) (answers : List Answer) → IsReady naming declared calls b answers
     → (name : Name) → or_invalid (type_of (ledger_of calls) (naming name)) ≡ type_in b.func.now (value_of b.func.now answers name)
 type-same {naming} calls b answers ready name = by (value_of b.func.now answers name) refl
   where
@@ -95,7 +95,7 @@ entries-kept tables numbers (plan.Jump destination) = refl
 entries-kept tables numbers _ = refl
 
 -- an instruction is allowed where it may be made
-pub plan-same : {naming : Naming} {declared : SignatureShape} (calls : List AnsweredCall) (b : FunctionBuilder) (answers : List Answer) → IsReady naming declared calls b answers
+pub plan-same : {R : Type 0} {naming : Naming} {declared : SignatureShape} (calls : List AnsweredCall) (b : FunctionBuilder R) (answers : List Answer) → IsReady naming declared calls b answers
     → (p : Plan) → allows (ledger_of calls) (request_in (numbers_at b.func.now answers) naming (ledger_of calls) p) ≡ can_make b answers p
 plan-same {naming} calls b answers ready p =
     let values = values-same calls b answers ready (operands_in p) in
@@ -111,12 +111,12 @@ plan-same {naming} calls b answers ready p =
     by false second third fourth last = refl
 
 -- one that may be made stands in an open block
-pub opens-planned : (b : FunctionBuilder) (answers : List Answer) (p : Plan) → can_make b answers p ≡ true → is_open b ≡ true
+pub opens-planned : {R : Type 0} (b : FunctionBuilder R) (answers : List Answer) (p : Plan) → can_make b answers p ≡ true → is_open b ≡ true
 opens-planned b answers p may = (and_parts (is_open b) (has_names b answers p) (and_parts (is_open b && has_names b answers p) _ (and_parts _ (has_entries b.func.now answers p) may).0).0).0
 
 -- THE SHAPE -----------------------------------------------------------------------------------------------------------
 
-edges-named : {naming : Naming} {declared : SignatureShape} (calls : List AnsweredCall) (b : FunctionBuilder) (answers : List Answer) → IsReady naming declared calls b answers
+edges-named : {R : Type 0} {naming : Naming} {declared : SignatureShape} (calls : List AnsweredCall) (b : FunctionBuilder R) (answers : List Answer) → IsReady naming declared calls b answers
     → (edges : List Edge) (made : List BlockCall) → AreFound b answers edges made → NamesEdges calls (map (edge_of naming) edges) made
 edges-named calls b answers ready [] [] found = tt
 edges-named calls b answers ready [] (m ∷ made) found = absurd found
@@ -125,11 +125,11 @@ edges-named calls b answers ready (edge ∷ edges) (m ∷ made) found =
     (found-names calls b answers ready edge m found.0, edges-named calls b answers ready edges made found.1)
 
 -- what it names exists
-pub operands-exist : {naming : Naming} {declared : SignatureShape} (calls : List AnsweredCall) (b : FunctionBuilder) (answers : List Answer) → IsReady naming declared calls b answers
+pub operands-exist : {R : Type 0} {naming : Naming} {declared : SignatureShape} (calls : List AnsweredCall) (b : FunctionBuilder R) (answers : List Answer) → IsReady naming declared calls b answers
     → (p : Plan) (s : InstructionData) (ty : «Type») → IsPlanned b answers p s ty → (k : ℕ) → k < length (operands s) → slice_index (operands s) k < length b.func.now.values
 operands-exist calls b answers ready p s ty planned = all-exist calls b answers ready (operands_in p) (operands s) planned.operands
 
-edges-lead : {naming : Naming} {declared : SignatureShape} (calls : List AnsweredCall) (b : FunctionBuilder) (answers : List Answer) → IsReady naming declared calls b answers
+edges-lead : {R : Type 0} {naming : Naming} {declared : SignatureShape} (calls : List AnsweredCall) (b : FunctionBuilder R) (answers : List Answer) → IsReady naming declared calls b answers
     → (edges : List Edge) (made : List BlockCall) → AreFound b answers edges made → All (CanLead b) made
 edges-lead calls b answers ready [] [] found k d inside = absurd (omega (arith, inside))
 edges-lead calls b answers ready [] (m ∷ made) found k d inside = absurd found
@@ -137,7 +137,7 @@ edges-lead calls b answers ready (edge ∷ edges) [] found k d inside = absurd f
 edges-lead calls b answers ready (edge ∷ edges) (m ∷ made) found zero d inside = found-exists calls b answers ready edge m found.0
 edges-lead calls b answers ready (edge ∷ edges) (m ∷ made) found (suc k) d inside = edges-lead calls b answers ready edges made found.1 k d (omega (arith, inside))
 
-pub destinations-lead : {naming : Naming} {declared : SignatureShape} (calls : List AnsweredCall) (b : FunctionBuilder) (answers : List Answer) → IsReady naming declared calls b answers
+pub destinations-lead : {R : Type 0} {naming : Naming} {declared : SignatureShape} (calls : List AnsweredCall) (b : FunctionBuilder R) (answers : List Answer) → IsReady naming declared calls b answers
     → (p : Plan) (s : InstructionData) (ty : «Type») → IsPlanned b answers p s ty → All (CanLead b) (destinations s)
 destinations-lead calls b answers ready p s ty planned = edges-lead calls b answers ready (edges_in p) (destinations s) planned.edges
 
@@ -149,7 +149,7 @@ planned-no-call tables numbers p (shape.TryCallIndirect args table) same = absur
 planned-no-call tables numbers p _ same = refl
 
 -- the instruction that a plan asks for
-pub instruction-named : {naming : Naming} {declared : SignatureShape} (calls : List AnsweredCall) (b : FunctionBuilder) (answers : List Answer) → IsReady naming declared calls b answers
+pub instruction-named : {R : Type 0} {naming : Naming} {declared : SignatureShape} (calls : List AnsweredCall) (b : FunctionBuilder R) (answers : List Answer) → IsReady naming declared calls b answers
     → (p : Plan) (s : InstructionData) (ty : «Type») → IsPlanned b answers p s ty
     → HasShape calls b.func.now (record { operation = operation_in (numbers_at b.func.now answers) p; controlling = controlling_in (λ name. or_invalid (type_of (ledger_of calls) (naming name))) p; operands = map naming (operands_in p); contexts = []; edges = map (edge_of naming) (edges_in p) }) s ty
 instruction-named {naming} calls b answers ready p s ty planned = record {
@@ -162,12 +162,12 @@ instruction-named {naming} calls b answers ready p s ty planned = record {
   edges = edges-named calls b answers ready (edges_in p) (destinations s) planned.edges;
 }
 
-pub contexts-exist : (b : FunctionBuilder) (answers : List Answer) (p : Plan) (s : InstructionData) (ty : «Type») → IsPlanned b answers p s ty
+pub contexts-exist : {R : Type 0} (b : FunctionBuilder R) (answers : List Answer) (p : Plan) (s : InstructionData) (ty : «Type») → IsPlanned b answers p s ty
     → All (ValueExists b.func.now) (contexts s)
 contexts-exist b answers p s ty planned =
     subst (All (ValueExists b.func.now)) (sym (no_contexts s (planned-no-call b.func.now.tables (numbers_at b.func.now answers) p s planned.operation))) (λ k d inside. absurd (omega (arith, inside)))
 
-pub entries-exist : (b : FunctionBuilder) (answers : List Answer) (p : Plan) (s : InstructionData) (ty : «Type») → IsPlanned b answers p s ty → can_make b answers p ≡ true
+pub entries-exist : {R : Type 0} (b : FunctionBuilder R) (answers : List Answer) (p : Plan) (s : InstructionData) (ty : «Type») → IsPlanned b answers p s ty → can_make b answers p ≡ true
     → All (EntryExists b.func.now.tables) (entries_of s)
 entries-exist b answers p s ty planned may =
     all-entries-exist b.func.now.tables (entries_of s)
@@ -191,7 +191,7 @@ plan-met f numbers (plan.StackLoad stack.StackAddr ty slot offset) none few = fe
 plan-met f numbers (plan.StackLoad stack.StackLoad ty slot offset) none few = few (omega arith)
 plan-met f numbers _ none few = few (omega arith)
 
-pub planned-full : (b : FunctionBuilder) (answers : List Answer) (p : Plan) (s : InstructionData) (ty : «Type») → IsPlanned b answers p s ty
+pub planned-full : {R : Type 0} (b : FunctionBuilder R) (answers : List Answer) (p : Plan) (s : InstructionData) (ty : «Type») → IsPlanned b answers p s ty
     → HasNoRoom b.func.now (count_of_results b.func.now.tables s) → (count_of_results b.func.now.tables s ≤ 1 → HasFullTable b) → PlanMeetsFullTable p b.func.now
 planned-full b answers p s ty planned none few =
     let same : plan_count (numbers_at b.func.now answers) p ≡ count_of_results b.func.now.tables s =

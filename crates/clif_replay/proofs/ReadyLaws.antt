@@ -38,8 +38,8 @@ no-entry : (one other : Answered) → one ≡ other → is_entry other ≡ false
 no-entry one other same none is = false≢true (sym none ∙ sym (ap is_entry same) ∙ is)
 
 -- what the ledger says of a name, the builder says of its number
-pub read : {naming : Naming} {declared : SignatureShape} (calls : List AnsweredCall) (b : FunctionBuilder) (answers : List Answer) → IsReady naming declared calls b answers → IsReadByNumber calls b.func.now b.ctx.now
-read calls b answers ready = ready.reads calls b.func.now b.ctx.now b.position ready.stands.ledger
+pub read : {R : Type 0} {naming : Naming} {declared : SignatureShape} (calls : List AnsweredCall) (b : FunctionBuilder R) (answers : List Answer) → IsReady naming declared calls b answers → IsReadByNumber calls b.func.now b.ctx.now.parts
+read calls b answers ready = ready.reads calls b.func.now b.ctx.now.parts b.position ready.stands.ledger
 
 -- a number that isn't 0
 pub past : {X : Type 0} (k : ℕ) (x y : X) → (if suc k == 0 then x else y) ≡ y
@@ -62,7 +62,7 @@ number-there : (calls : List AnsweredCall) (place index : ℕ) (call : AnsweredC
     → number_of calls (named.answer_of place index) ≡ slice_get call.numbers index
 number-there calls place index call at = ap (option_and_then (λ (one : AnsweredCall). slice_get one.numbers index)) at
 
-pub entry : {naming : Naming} {declared : SignatureShape} (calls : List AnsweredCall) (b : FunctionBuilder) (answers : List Answer) → IsReady naming declared calls b answers
+pub entry : {R : Type 0} {naming : Naming} {declared : SignatureShape} (calls : List AnsweredCall) (b : FunctionBuilder R) (answers : List Answer) → IsReady naming declared calls b answers
     → (place : ℕ) (a : Answer) → slice_get answers place ≡ Some a → Entry naming calls place a
 entry {naming} calls b answers ready place a at = by (ready.answered place a at)
   where
@@ -119,7 +119,7 @@ entry {naming} calls b answers ready place a at = by (ready.answered place a at)
     ]
 
 -- the builder agrees with an answer of its calls
-agrees : {naming : Naming} {declared : SignatureShape} (calls : List AnsweredCall) (b : FunctionBuilder) (answers : List Answer) → IsReady naming declared calls b answers
+agrees : {R : Type 0} {naming : Naming} {declared : SignatureShape} (calls : List AnsweredCall) (b : FunctionBuilder R) (answers : List Answer) → IsReady naming declared calls b answers
     → (name : named.Name) (a : Answered) (number : ℕ) → answer_at (ledger_of calls) name ≡ Some a → number_of calls name ≡ Some number
     → AnswerAgrees (ledger_of calls) b.func.now name a number
 agrees calls b answers ready name a number answered numbered =
@@ -128,7 +128,7 @@ agrees calls b answers ready name a number answered numbered =
     (ready.stands.ledger.answers name.place call.0 given.0 call.1 given.1).each name.index a number given.2 call.2
 
 -- there is no answer behind the last call
-pub answer-past : {naming : Naming} {declared : SignatureShape} (calls : List AnsweredCall) (b : FunctionBuilder) (answers : List Answer) → IsReady naming declared calls b answers
+pub answer-past : {R : Type 0} {naming : Naming} {declared : SignatureShape} (calls : List AnsweredCall) (b : FunctionBuilder R) (answers : List Answer) → IsReady naming declared calls b answers
     → (name : Name) → slice_get answers name.place ≡ None → answer_at (ledger_of calls) (naming name) ≡ None
 answer-past calls b answers ready name none =
     elim (cases_lt name.place (length answers)) [
@@ -170,7 +170,7 @@ instruction-answer given types (suc k) x is at =
     inr (k, refl, value.0, value.2)
 
 -- a name that leads to a block names it
-pub block-found : {naming : Naming} {declared : SignatureShape} (calls : List AnsweredCall) (b : FunctionBuilder) (answers : List Answer) → IsReady naming declared calls b answers
+pub block-found : {R : Type 0} {naming : Naming} {declared : SignatureShape} (calls : List AnsweredCall) (b : FunctionBuilder R) (answers : List Answer) → IsReady naming declared calls b answers
     → (name : Name) (block : ℕ) → block_of answers name ≡ Some block → NamesBlock calls (naming name) block
 block-found {naming} calls b answers ready name block found = by (slice_get answers name.place) refl found
   where
@@ -194,7 +194,7 @@ block-found {naming} calls b answers ready name block found = by (slice_get answ
     by (Some (answer.Block x)) at found = by_block x at name.answer refl found
 
 -- a name that leads to no block names none
-pub block-missing : {naming : Naming} {declared : SignatureShape} (calls : List AnsweredCall) (b : FunctionBuilder) (answers : List Answer) → IsReady naming declared calls b answers
+pub block-missing : {R : Type 0} {naming : Naming} {declared : SignatureShape} (calls : List AnsweredCall) (b : FunctionBuilder R) (answers : List Answer) → IsReady naming declared calls b answers
     → (name : Name) → block_of answers name ≡ None → has_block (ledger_of calls) (naming name) ≡ false
 block-missing {naming} calls b answers ready name missing =
     false_from_ne_true (has_block (ledger_of calls) (naming name)) (λ there.
@@ -260,7 +260,7 @@ inst-at answers name inst found = by (slice_get answers name.place) refl found
     by (Some (answer.Inst i)) at found = by_inst i at name.answer refl found
 
 -- and names it
-pub inst-found : {naming : Naming} {declared : SignatureShape} (calls : List AnsweredCall) (b : FunctionBuilder) (answers : List Answer) → IsReady naming declared calls b answers
+pub inst-found : {R : Type 0} {naming : Naming} {declared : SignatureShape} (calls : List AnsweredCall) (b : FunctionBuilder R) (answers : List Answer) → IsReady naming declared calls b answers
     → (name : Name) (inst : ℕ) → inst_of answers name ≡ Some inst → NamesInstruction calls (naming name) inst
 inst-found {naming} calls b answers ready name inst found =
     let at = inst-at answers name inst found in
@@ -273,7 +273,7 @@ inst-found {naming} calls b answers ready name inst found =
     }
 
 -- a name that leads to no instruction names none
-pub inst-missing : {naming : Naming} {declared : SignatureShape} (calls : List AnsweredCall) (b : FunctionBuilder) (answers : List Answer) → IsReady naming declared calls b answers
+pub inst-missing : {R : Type 0} {naming : Naming} {declared : SignatureShape} (calls : List AnsweredCall) (b : FunctionBuilder R) (answers : List Answer) → IsReady naming declared calls b answers
     → (name : Name) → inst_of answers name ≡ None → has_instruction (ledger_of calls) (naming name) ≡ false
 inst-missing {naming} calls b answers ready name missing =
     false_from_ne_true (has_instruction (ledger_of calls) (naming name)) (λ there.
@@ -331,7 +331,7 @@ inst-missing {naming} calls b answers ready name missing =
         ]
 
 -- the results of an instruction that was answered
-record Results (naming : Naming) (calls : List AnsweredCall) (b : FunctionBuilder) (place i : ℕ) : Type 0 where
+record Results {R : Type 0} (naming : Naming) (calls : List AnsweredCall) (b : FunctionBuilder R) (place i : ℕ) : Type 0 where
   pub types : List «Type»
   pub node : InstNode
   pub there : slice_get b.func.now.insts i ≡ Some node
@@ -339,7 +339,7 @@ record Results (naming : Naming) (calls : List AnsweredCall) (b : FunctionBuilde
   pub told : (name : Name) → name.place ≡ place → answer_at (ledger_of calls) (naming name) ≡ slice_get (AnInstruction ∷ map AValue types) name.answer
   pub numbered : (name : Name) → name.place ≡ place → number_of calls (naming name) ≡ slice_get (i ∷ node.results) name.answer
 
-results-of : {naming : Naming} {declared : SignatureShape} (calls : List AnsweredCall) (b : FunctionBuilder) (answers : List Answer) → IsReady naming declared calls b answers
+results-of : {R : Type 0} {naming : Naming} {declared : SignatureShape} (calls : List AnsweredCall) (b : FunctionBuilder R) (answers : List Answer) → IsReady naming declared calls b answers
     → (place i : ℕ) → slice_get answers place ≡ Some (answer.Inst i) → Results naming calls b place i
 results-of {naming} calls b answers ready place i at = by (ready.answered place (answer.Inst i) at)
   where
@@ -374,7 +374,7 @@ results-of {naming} calls b answers ready place i at = by (ready.answered place 
     ]
 
 -- a name that leads to a value names it
-pub value-found : {naming : Naming} {declared : SignatureShape} (calls : List AnsweredCall) (b : FunctionBuilder) (answers : List Answer) → IsReady naming declared calls b answers
+pub value-found : {R : Type 0} {naming : Naming} {declared : SignatureShape} (calls : List AnsweredCall) (b : FunctionBuilder R) (answers : List Answer) → IsReady naming declared calls b answers
     → (name : Name) (value : ℕ) → value_of b.func.now answers name ≡ Some value → NamesValue calls (naming name) value
 value-found {naming} calls b answers ready name value found = by (slice_get answers name.place) refl found
   where
@@ -424,7 +424,7 @@ value-found {naming} calls b answers ready name value found = by (slice_get answ
     by (Some (answer.Inst i)) at found = by_inst i at name.answer refl found
 
 -- a name that leads to no value names none
-pub value-missing : {naming : Naming} {declared : SignatureShape} (calls : List AnsweredCall) (b : FunctionBuilder) (answers : List Answer) → IsReady naming declared calls b answers
+pub value-missing : {R : Type 0} {naming : Naming} {declared : SignatureShape} (calls : List AnsweredCall) (b : FunctionBuilder R) (answers : List Answer) → IsReady naming declared calls b answers
     → (name : Name) → value_of b.func.now answers name ≡ None → has_value (ledger_of calls) (naming name) ≡ false
 value-missing {naming} calls b answers ready name missing =
     false_from_ne_true (has_value (ledger_of calls) (naming name)) (λ there.
@@ -495,7 +495,7 @@ value-missing {naming} calls b answers ready name missing =
         ]
 
 -- every answer exists
-pub answers-exist : {naming : Naming} {declared : SignatureShape} (calls : List AnsweredCall) (b : FunctionBuilder) (answers : List Answer) → IsReady naming declared calls b answers
+pub answers-exist : {R : Type 0} {naming : Naming} {declared : SignatureShape} (calls : List AnsweredCall) (b : FunctionBuilder R) (answers : List Answer) → IsReady naming declared calls b answers
     → (k : ℕ) → k < length answers → AnswerExists b.func.now (slice_index_or answers k answer.Nothing)
 answers-exist {naming} calls b answers ready k inside =
     let there = get-below answers k inside in
@@ -521,7 +521,7 @@ answers-exist {naming} calls b answers ready k inside =
     by (answer.Inst i) at = let r = results-of calls b answers ready k i at in slice_get_within b.func.now.insts i r.node r.there
 
 -- a value that is named exists
-pub value-exists : {naming : Naming} {declared : SignatureShape} (calls : List AnsweredCall) (b : FunctionBuilder) (answers : List Answer) → IsReady naming declared calls b answers
+pub value-exists : {R : Type 0} {naming : Naming} {declared : SignatureShape} (calls : List AnsweredCall) (b : FunctionBuilder R) (answers : List Answer) → IsReady naming declared calls b answers
     → (name : Name) (value : ℕ) → value_of b.func.now answers name ≡ Some value → value < length b.func.now.values
 value-exists {naming} calls b answers ready name value found =
     let names = value-found calls b answers ready name value found in
@@ -530,7 +530,7 @@ value-exists {naming} calls b answers ready name value found =
     slice_get_within b.func.now.values value node.0 node.1
 
 -- a block that is named exists
-pub block-there : {naming : Naming} {declared : SignatureShape} (calls : List AnsweredCall) (b : FunctionBuilder) (answers : List Answer) → IsReady naming declared calls b answers
+pub block-there : {R : Type 0} {naming : Naming} {declared : SignatureShape} (calls : List AnsweredCall) (b : FunctionBuilder R) (answers : List Answer) → IsReady naming declared calls b answers
     → (name : Name) (block : ℕ) → block_of answers name ≡ Some block → block < length b.func.now.blocks
 block-there {naming} calls b answers ready name block found =
     let names = block-found calls b answers ready name block found in
@@ -538,14 +538,14 @@ block-there {naming} calls b answers ready name block found =
     r.exists block (naming name) (r.named (naming name) block names)
 
 -- an instruction that is named exists
-pub inst-there : {naming : Naming} {declared : SignatureShape} (calls : List AnsweredCall) (b : FunctionBuilder) (answers : List Answer) → IsReady naming declared calls b answers
+pub inst-there : {R : Type 0} {naming : Naming} {declared : SignatureShape} (calls : List AnsweredCall) (b : FunctionBuilder R) (answers : List Answer) → IsReady naming declared calls b answers
     → (name : Name) (inst : ℕ) → inst_of answers name ≡ Some inst → inst < length b.func.now.insts
 inst-there calls b answers ready name inst found =
     let r = results-of calls b answers ready name.place inst (inst-at answers name inst found).0 in
     slice_get_within b.func.now.insts inst r.node r.there
 
 -- the current block exists
-pub current-exists : {naming : Naming} {declared : SignatureShape} (calls : List AnsweredCall) (b : FunctionBuilder) (answers : List Answer) → IsReady naming declared calls b answers → IfSome b.position (λ block. block < length b.func.now.blocks)
+pub current-exists : {R : Type 0} {naming : Naming} {declared : SignatureShape} (calls : List AnsweredCall) (b : FunctionBuilder R) (answers : List Answer) → IsReady naming declared calls b answers → IfSome b.position (λ block. block < length b.func.now.blocks)
 current-exists calls b answers ready = by b.position refl
   where
     by : (o : Option ℕ) → b.position ≡ o → IfSome o (λ block. block < length b.func.now.blocks)
@@ -567,7 +567,7 @@ edge-is (Some (AJumpTable place)) edge is = absurd (none-some edge is)
 edge-is (Some (AnExceptionTable place)) edge is = absurd (none-some edge is)
 
 -- one more call was answered
-pub ready-answered : {naming : Naming} {declared : SignatureShape} (calls : List AnsweredCall) (call : AnsweredCall) (old new : FunctionBuilder) (answers : List Answer) (a : Answer)
+pub ready-answered : {R : Type 0} {naming : Naming} {declared : SignatureShape} (calls : List AnsweredCall) (call : AnsweredCall) (old new : FunctionBuilder R) (answers : List Answer) (a : Answer)
     → IsReady naming declared calls old answers → StandsFor declared (calls ++ call ∷ []) new → AnswerIs a (answers_to (ledger_of calls) call.request) call.numbers
     → ((made : BlockCall) → a ≡ answer.Edge made
     → (edge : meaning.Edge named.Name named.Name) × (edge_named (ledger_of (calls ++ call ∷ [])) (named.answer_of (length calls) 0) ≡ Some edge) × NamesEdge (calls ++ call ∷ []) edge made)
@@ -637,7 +637,7 @@ ready-answered {naming} calls call old new answers a ready stands is edge_there 
     }
 
 -- tables that a call leaves agree behind it
-pub tables-still : {naming : Naming} {declared : SignatureShape} (calls : List AnsweredCall) (call : AnsweredCall) (old new : FunctionBuilder) (answers : List Answer)
+pub tables-still : {R : Type 0} {naming : Naming} {declared : SignatureShape} (calls : List AnsweredCall) (call : AnsweredCall) (old new : FunctionBuilder R) (answers : List Answer)
     → IsReady naming declared calls old answers → StandsFor declared (calls ++ call ∷ []) new → (ledger_with (ledger_of calls) call.request).jump_tables ≡ (ledger_of calls).jump_tables
     → new.func.now.tables.jump_tables ≡ old.func.now.tables.jump_tables
     → TablesAgree (NamesEdges (calls ++ call ∷ [])) (ledger_of (calls ++ call ∷ [])).jump_tables new.func.now.tables.jump_tables
@@ -647,7 +647,7 @@ tables-still calls call old new answers ready stands kept same =
     (sym (ap (λ (l : Ledger). l.jump_tables) (ledger-more calls call) ∙ kept))
     (tables-stay ready.reads calls (call ∷ []) old new ready.stands stands (ledger_of calls).jump_tables old.func.now.tables.jump_tables ready.tables))
 
-pub exceptions-still : {naming : Naming} {declared : SignatureShape} (calls : List AnsweredCall) (call : AnsweredCall) (old new : FunctionBuilder) (answers : List Answer)
+pub exceptions-still : {R : Type 0} {naming : Naming} {declared : SignatureShape} (calls : List AnsweredCall) (call : AnsweredCall) (old new : FunctionBuilder R) (answers : List Answer)
     → IsReady naming declared calls old answers → StandsFor declared (calls ++ call ∷ []) new
     → (ledger_with (ledger_of calls) call.request).exception_tables ≡ (ledger_of calls).exception_tables
     → new.func.now.tables.exception_tables ≡ old.func.now.tables.exception_tables
@@ -659,7 +659,7 @@ exceptions-still calls call old new answers ready stands kept same =
     (exceptions-stay ready.reads calls (call ∷ []) old new ready.stands stands (ledger_of calls).exception_tables old.func.now.tables.exception_tables ready.exceptions))
 
 -- one that makes no edge, and makes no table of edges and lets none serve
-pub ready-more : {naming : Naming} {declared : SignatureShape} (calls : List AnsweredCall) (call : AnsweredCall) (old new : FunctionBuilder) (answers : List Answer) (a : Answer)
+pub ready-more : {R : Type 0} {naming : Naming} {declared : SignatureShape} (calls : List AnsweredCall) (call : AnsweredCall) (old new : FunctionBuilder R) (answers : List Answer) (a : Answer)
     → IsReady naming declared calls old answers → LeavesTables call.request → KeepsTables old new
     → StandsFor declared (calls ++ call ∷ []) new → AnswerIs a (answers_to (ledger_of calls) call.request) call.numbers
     → IsReady naming declared (calls ++ call ∷ []) new (answers ++ a ∷ [])
@@ -674,7 +674,7 @@ ready-more calls call old new answers a ready leaves tables stands is =
 -- EDGES -----------------------------------------------------------------------------------------------------------------
 
 -- a name that leads to an edge names one
-pub edge-found : {naming : Naming} {declared : SignatureShape} (calls : List AnsweredCall) (b : FunctionBuilder) (answers : List Answer) → IsReady naming declared calls b answers
+pub edge-found : {R : Type 0} {naming : Naming} {declared : SignatureShape} (calls : List AnsweredCall) (b : FunctionBuilder R) (answers : List Answer) → IsReady naming declared calls b answers
     → (name : Name) (made : BlockCall) → edge_at answers name ≡ Some made
     → (edge : meaning.Edge named.Name named.Name) × (edge_named (ledger_of calls) (naming name) ≡ Some edge) × NamesEdge calls edge made
 edge-found {naming} calls b answers ready name made found = by (slice_get answers name.place) refl found
@@ -699,7 +699,7 @@ edge-found {naming} calls b answers ready name made found = by (slice_get answer
     by (Some (answer.Edge other)) at found = by_edge other at name.answer refl found
 
 -- a name that leads to no edge names none
-pub edge-missing : {naming : Naming} {declared : SignatureShape} (calls : List AnsweredCall) (b : FunctionBuilder) (answers : List Answer) → IsReady naming declared calls b answers
+pub edge-missing : {R : Type 0} {naming : Naming} {declared : SignatureShape} (calls : List AnsweredCall) (b : FunctionBuilder R) (answers : List Answer) → IsReady naming declared calls b answers
     → (name : Name) → edge_at answers name ≡ None → is_some (edge_named (ledger_of calls) (naming name)) ≡ false
 edge-missing {naming} calls b answers ready name missing =
     false_from_ne_true (is_some (edge_named (ledger_of calls) (naming name))) (λ there.

@@ -1,6 +1,6 @@
 -- What a replay answers, from what the calls and `finalize` answered.
 use Rattle.std.proofs.Common.{arith, ◌≡◌, ◌<◌, ◌≤◌, ℕ, List, [], ◌∷◌, length, refl, ap, sym, ◌∙◌, subst, inl, inr}
-use Rattle.std.specs.Prelude.{◌≢◌, ◌⊎◌, Bool, false, true, Err, IfOk, Ok, OnOk, Result, Some, slice_get}
+use Rattle.std.specs.Prelude.{◌≢◌, ◌⊎◌, Bool, false, true, Err, IfOk, None, Ok, OnOk, Option, Result, Some, option_map, slice_get}
 use Rattle.clif_types.specs.Signature.{SignatureShape}
 use Rattle.clif_types.specs.Target.{pointer_type_of}
 use Rattle.clif_types.specs.declared.extname.UserFuncName.{UserFuncName}
@@ -21,7 +21,9 @@ use Rattle.clif_builder.specs.declared.builder.FunctionBuilder.{FunctionBuilder}
 use Rattle.clif_builder.specs.declared.error.FinalizeError.{FinalizeError}
 use Rattle.clif_builder.specs.declared.error.FinalizeError.TheVariants as ending
 use Rattle.clif_builder.specs.Builder.{SameLoans}
-use Rattle.clif_builder.specs.Ending.{AsFound, BecomesSpilled, EndsByLedger}
+use Rattle.clif_regions.specs.Asking.{Asks, CarriesAnswersOf}
+use Rattle.clif_builder.proofs.Regions.{alike_of}
+use Rattle.clif_builder.specs.Ending.{AsFound, BecomesFinished, BecomesSpilled, EndsByLedger}
 use Rattle.clif_builder.specs.Ledger.{ledger_of as plain_ledger_of}
 use Rattle.clif_builder.specs.StandsFor.{LeavesNoParameter, StandsFor, StandsIn}
 use Rattle.clif_calls.specs.declared.call.Call.{Call}
@@ -36,6 +38,7 @@ use Rattle.clif_replay.specs.Replayed.{Found, IsReplayed, IsStoppedByTable, IsSt
 use Rattle.clif_expansion.specs.CallsVerdict.{verdict_on_call_attempts}
 use Rattle.clif_expansion.proofs.calls.Headline.{keep_premises}
 use Rattle.clif_replay.proofs.Asking.{recorded_as_asked}
+use Rattle.clif_replay.proofs.FirstRegions.{none_built, none_spilled}
 use Rattle.clif_replay.proofs.Verdicts.{all-of-width, all-replayed, full-spilling, means-replayed, verdict-accepted, verdict-refused}
 
 -- it keeps its name
@@ -43,43 +46,68 @@ pub spilled-name : (f g : Body) (recorded : List ℕ) (pointer : «Type») → B
 spilled-name f g [] pointer same = ap (λ (x : Body). x.name) same
 spilled-name f g (value ∷ recorded) pointer spilled = spilled.0.name
 
+pub finished-name : {C : Type 0} (f g : Body) (recorded : List ℕ) (pointer : «Type») (callback : Option C) (asks_of : C → Asks) → BecomesFinished f recorded pointer callback asks_of g → g.name ≡ f.name
+finished-name f g recorded pointer callback asks_of become =
+    sym (ap (λ (x : Body). x.name) (alike_of callback asks_of (length f.insts) become.between g become.regions)) ∙ spilled-name f become.between recorded pointer become.spilled
+
+-- the callback, by what it is asked
+carries-mapped : {C D : Type 0} (callback : Option C) (ask : C → D) (asks_of : D → Asks) (first : ℕ) (old new : Body) → CarriesAnswersOf callback (λ c. asks_of (ask c)) first old new
+    → CarriesAnswersOf (option_map ask callback) asks_of first old new
+carries-mapped None ask asks_of first old new carries = carries
+carries-mapped (Some one) ask asks_of first old new carries = carries
+
+pub finished-mapped : {C D : Type 0} (f g : Body) (recorded : List ℕ) (pointer : «Type») (callback : Option C) (ask : C → D) (asks_of : D → Asks) (region : Option D) → option_map ask callback ≡ region
+    → BecomesFinished f recorded pointer callback (λ c. asks_of (ask c)) g → BecomesFinished f recorded pointer region asks_of g
+finished-mapped {D = D} f g recorded pointer callback ask asks_of region is become = record {
+  between = become.between;
+  spilled = become.spilled;
+  regions = subst (λ (r : Option D). CarriesAnswersOf r asks_of (length f.insts) become.between g) is (carries-mapped callback ask asks_of (length f.insts) become.between g become.regions);
+}
+
 -- what `finalize` finds, once all calls were made
-abbrev pub found-by : (calls : List Call) (declared : SignatureShape) (config : TargetFrontendConfig) (made : List AnsweredCall) (b : FunctionBuilder) → StandsFor declared made b
+abbrev pub found-by : {R : Type 0} (calls : List Call) (declared : SignatureShape) (config : TargetFrontendConfig) (made : List AnsweredCall) (b : FunctionBuilder R) → StandsFor declared made b
     → IsReplayed config declared calls (length calls) made → Found config calls declared
 found-by calls declared config made b stands replayed = record {
   function = b.func.now;
   made = made;
   plain = all-replayed config declared calls made replayed;
-  context = b.ctx.now;
+  context = b.ctx.now.parts;
   position = b.position;
   stands = stands;
   recorded =
       let plain = all-replayed config declared calls made replayed in
-      recorded_as_asked (calls_of config declared calls) plain.reading made b.func.now.values b.ctx.now plain.joined stands.ledger.tracks;
+      recorded_as_asked (calls_of config declared calls) plain.reading made b.func.now.values b.ctx.now.parts plain.joined stands.ledger.tracks;
 }
 
 -- all calls were made, and `finalize` succeeded: `f` is the function that it left
-pub finished-replay : (calls : List Call) (declared : SignatureShape) (config : TargetFrontendConfig) (made : List AnsweredCall) (b : FunctionBuilder) (f : Body) (r : Result (Unit {0}) FinalizeError)
-    → (named : UserFuncName) → f.name ≡ named → BecomesSpilled b.func.now (recorded_of b.ctx.now.ssa.tracking) (pointer_type_of config.pointer_width) f
+pub finished-replay : {C : Type 0} {R : Type 0} (callback : Option C) (asks_of : C → Asks) (calls : List Call) (declared : SignatureShape) (config : TargetFrontendConfig) (made : List AnsweredCall) (b : FunctionBuilder R) (f : Body) (r : Result (Unit {0}) FinalizeError)
+    → (named : UserFuncName) → f.name ≡ named → BecomesFinished b.func.now (recorded_of b.ctx.now.parts.ssa.tracking) (pointer_type_of config.pointer_width) callback asks_of f
     → StandsFor declared made b → IsReplayed config declared calls (length calls) made
     → MeansTheSame (script_of made) declared config.pointer_width (view_of f)
     → (CallersEdgesMatch (script_of made) → EdgesMatch (view_of f))
     → AsFound declared config.pointer_width made b
-    → EndsByLedger made (refusal_of (plain_ledger_of made) Finalize) b.func.now (recorded_of b.ctx.now.ssa.tracking) r → r ≡ Ok tt
-    → ReplayMakes calls named declared config f
-finished-replay calls declared config made b f r named name spilled stands replayed meaning matches found ends is =
+    → EndsByLedger made (refusal_of (plain_ledger_of made) Finalize) b.func.now (recorded_of b.ctx.now.parts.ssa.tracking) r → r ≡ Ok tt
+    → ReplayMakes calls named declared config callback asks_of f
+finished-replay callback asks_of calls declared config made b f r named name become stands replayed meaning matches found ends is =
     let all = all-replayed config declared calls made replayed in
-    let accepted = verdict-accepted config declared calls made b.func.now (recorded_of b.ctx.now.ssa.tracking) r replayed ends is in
+    let accepted = verdict-accepted config declared calls made b.func.now (recorded_of b.ctx.now.parts.ssa.tracking) r replayed ends is in
     record {
       same_meaning = means-replayed config declared calls made f replayed meaning;
       built = record {
-        found = found-by calls declared config made b stands replayed;
-        parameters = found.parameters;
-        well_placed = λ premises.
-            found.well_placed (keep_premises.placement (pointer_bits config.pointer_width) all.reading (script_of made) (calls_of config declared calls) all.joined
-            (all.performed (pointer_bits config.pointer_width) (all-of-width config declared empty_ledger calls)) declared premises);
-        contexts = accepted.1;
-        spilled = spilled;
+        between = become.between;
+        built = record {
+          found = found-by calls declared config made b stands replayed;
+          parameters = found.parameters;
+          well_placed = λ premises.
+              found.well_placed (keep_premises.placement (pointer_bits config.pointer_width) all.reading (script_of made) (calls_of config declared calls) all.joined
+              (all.performed (pointer_bits config.pointer_width) (all-of-width config declared empty_ledger calls)) declared premises);
+          contexts = accepted.1;
+          spilled = become.spilled;
+        };
+        begins =
+            none_spilled b.func.now become.between (recorded_of b.ctx.now.parts.ssa.tracking) (pointer_type_of config.pointer_width) become.spilled
+            ∙ none_built declared made b.func.now b.ctx.now.parts b.position stands;
+        regions = become.regions;
       };
       edges_match = λ typed. matches (keep_premises.edges_match all.reading (script_of made) (calls_of config declared calls) all.joined typed);
       named = name;
@@ -87,10 +115,11 @@ finished-replay calls declared config made b f r named name spilled stands repla
     }
 
 -- the function is this one
-pub finished-as : (calls : List Call) (old : Body) (config : TargetFrontendConfig) (start f g : Body) → start ≡ old → g ≡ f → ReplayMakes calls start.name start.signature config f → ReplayMakes calls old.name old.signature config g
-finished-as calls old config start f g begins ends done =
-    subst (λ (x : Body). ReplayMakes calls x.name x.signature config g) begins
-    (subst (λ (x : Body). ReplayMakes calls start.name start.signature config x) (sym ends) done)
+pub finished-as : {C : Type 0} (callback : Option C) (asks_of : C → Asks) (calls : List Call) (old : Body) (config : TargetFrontendConfig) (start f g : Body) → start ≡ old → g ≡ f
+    → ReplayMakes calls start.name start.signature config callback asks_of f → ReplayMakes calls old.name old.signature config callback asks_of g
+finished-as callback asks_of calls old config start f g begins ends done =
+    subst (λ (x : Body). ReplayMakes calls x.name x.signature config callback asks_of g) begins
+    (subst (λ (x : Body). ReplayMakes calls start.name start.signature config callback asks_of x) (sym ends) done)
 
 -- `finalize` refused, which tells the verdict
 pub told-refused : (config : TargetFrontendConfig) (calls : List Call) (start old : Body) → start ≡ old
@@ -166,9 +195,9 @@ other-than : (e other : FinalizeError) → is_other e ≡ true → is_other othe
 other-than e other is isnt same = let no_way : true ≡ false = sym is ∙ ap is_other same ∙ isnt in let never : ⊥ = cc in never
 
 -- all calls were made, and `finalize` refused
-pub told-end : (config : TargetFrontendConfig) (calls : List Call) (start old : Body) → start ≡ old → (made : List AnsweredCall) (b : FunctionBuilder) (r : Result (Unit {0}) FinalizeError) (e : FinalizeError)
+pub told-end : {R : Type 0} (config : TargetFrontendConfig) (calls : List Call) (start old : Body) → start ≡ old → (made : List AnsweredCall) (b : FunctionBuilder R) (r : Result (Unit {0}) FinalizeError) (e : FinalizeError)
     → StandsFor start.signature made b → IsReplayed config start.signature calls (length calls) made
-    → EndsByLedger made (refusal_of (plain_ledger_of made) Finalize) b.func.now (recorded_of b.ctx.now.ssa.tracking) r → r ≡ Err e
+    → EndsByLedger made (refusal_of (plain_ledger_of made) Finalize) b.func.now (recorded_of b.ctx.now.parts.ssa.tracking) r → r ≡ Err e
     → ReplayTells calls old.name old.signature config (Err (end_error_at e (length calls)))
 told-end config calls start old begins made b r e stands replayed ends is = by e is
   where
@@ -176,7 +205,7 @@ told-end config calls start old begins made b r e stands replayed ends is = by e
     refused error at other =
         told-refused config calls start old begins
         (refused-for config calls start.signature (found-by calls start.signature config made b stands replayed)
-        (verdict-refused config start.signature calls made b.func.now (recorded_of b.ctx.now.ssa.tracking) r error replayed ends at
+        (verdict-refused config start.signature calls made b.func.now (recorded_of b.ctx.now.parts.ssa.tracking) r error replayed ends at
         (other-than error ending.Memory other refl) (other-than error ending.Full other refl)))
 
     by : (error : FinalizeError) → r ≡ Err error → ReplayTells calls old.name old.signature config (Err (end_error_at error (length calls)))
@@ -184,7 +213,7 @@ told-end config calls start old begins made b r e stands replayed ends is = by e
     by ending.Full at =
         told-full config calls start old begins (record {
           found = found-by calls start.signature config made b stands replayed;
-          some = full-spilling made b.func.now (recorded_of b.ctx.now.ssa.tracking) r ends at;
+          some = full-spilling made b.func.now (recorded_of b.ctx.now.parts.ssa.tracking) r ends at;
         })
     by ending.Failed at = refused ending.Failed at refl
     by (ending.Unsealed block) at = refused (ending.Unsealed block) at refl
@@ -215,7 +244,7 @@ pub of-none : (back : Result Body ReplayError) (e : ReplayError) (P : Body → T
 of-none back e P came = subst (λ (r : Result Body ReplayError). IfOk r P) (sym came) tt
 
 -- Calls of a list were made on a builder: all of them, or those before the one that ended them.
-pub record AreMade (config : TargetFrontendConfig) (calls : List Call) (old new : FunctionBuilder) (result : Result (Unit {0}) ReplayError) : Type 0 where
+pub record AreMade {R : Type 0} (config : TargetFrontendConfig) (calls : List Call) (old new : FunctionBuilder R) (result : Result (Unit {0}) ReplayError) : Type 0 where
   pub loans : SameLoans old new
   pub name : OnOk result (new.func.now.name ≡ old.func.now.name)
   pub ready : OnOk result ((made : List AnsweredCall) × StandsFor old.func.now.signature made new × IsReplayed config old.func.now.signature calls (length calls) made)
@@ -227,11 +256,11 @@ pub record AreMade (config : TargetFrontendConfig) (calls : List Call) (old new 
   pub table_full : result ≡ Err replay.Full → IsStoppedByTable config calls old.func.now.name old.func.now.signature
 
 -- loans are kept over two steps
-pub loans-then : (old middle new : FunctionBuilder) → SameLoans old middle → SameLoans middle new → SameLoans old new
-loans-then old middle new first second = record { func = second.func ∙ first.func; ctx = second.ctx ∙ first.ctx }
+pub loans-then : {R : Type 0} (old middle new : FunctionBuilder R) → SameLoans old middle → SameLoans middle new → SameLoans old new
+loans-then old middle new first second = record { func = second.func ∙ first.func; ctx = second.ctx ∙ first.ctx; region = second.region ∙ first.region }
 
 -- memory was refused on the way
-pub made-memory : (config : TargetFrontendConfig) (calls : List Call) (old new : FunctionBuilder) (result : Result (Unit {0}) ReplayError) → result ≡ Err replay.Memory → SameLoans old new → AreMade config calls old new result
+pub made-memory : {R : Type 0} (config : TargetFrontendConfig) (calls : List Call) (old new : FunctionBuilder R) (result : Result (Unit {0}) ReplayError) → result ≡ Err replay.Memory → SameLoans old new → AreMade config calls old new result
 made-memory config calls old new result is loans = subst (λ (r : Result (Unit {0}) ReplayError). AreMade config calls old new r) (sym is) (record {
   loans = loans;
   name = tt;
@@ -254,7 +283,7 @@ made-memory config calls old new result is loans = subst (λ (r : Result (Unit {
     no-full h = cc
 
 -- all calls were made
-pub made-all : (config : TargetFrontendConfig) (calls : List Call) (old new : FunctionBuilder) (made : List AnsweredCall) → SameLoans old new → new.func.now.name ≡ old.func.now.name
+pub made-all : {R : Type 0} (config : TargetFrontendConfig) (calls : List Call) (old new : FunctionBuilder R) (made : List AnsweredCall) → SameLoans old new → new.func.now.name ≡ old.func.now.name
     → StandsFor old.func.now.signature made new → IsReplayed config old.func.now.signature calls (length calls) made → new.failed ≡ false → AreMade config calls old new (Ok tt)
 made-all config calls old new made loans name stands replayed sound = record {
   loans = loans;

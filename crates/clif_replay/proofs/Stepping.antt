@@ -52,7 +52,7 @@ use Rattle.clif_replay.proofs.Nowhere.{AreAnswered}
 use Rattle.clif_replay.proofs.ReadyLaws.{read}
 
 -- The builder stands for plain calls of these calls of the script, which are taken, and gave these answers.
-pub record IsInStep (config : TargetFrontendConfig) (declared : SignatureShape) (script : List ScriptCall) (b : FunctionBuilder) (answers : List Answer) : Type 0 where
+pub record IsInStep {R : Type 0} (config : TargetFrontendConfig) (declared : SignatureShape) (script : List ScriptCall) (b : FunctionBuilder R) (answers : List Answer) : Type 0 where
   pub naming : Naming
   pub made : List AnsweredCall
   pub ready : IsReady naming declared made b answers
@@ -66,7 +66,7 @@ IsJudgedOn ledger this tried result =
     IsCallJudged (call_allowed ledger this) (tried && call_blames_variable ledger this) (is_some (call_refusal ledger this)) result
 
 -- A call of the list was made, or wasn't.
-pub record IsStep (config : TargetFrontendConfig) (c : Call) (old new : FunctionBuilder) (answers : List Answer) (result : Result Answer CallError) : Type 0 where
+pub record IsStep {R : Type 0} (config : TargetFrontendConfig) (c : Call) (old new : FunctionBuilder R) (answers : List Answer) (result : Result Answer CallError) : Type 0 where
   pub judged : (declared : SignatureShape) (script : List ScriptCall) → IsInStep config declared script old answers
       → IsJudgedOn (ledger_of script) (call_of config declared (ledger_of script) c) (is_tried c) result
   pub goes_on : (declared : SignatureShape) (script : List ScriptCall) → IsInStep config declared script old answers
@@ -75,8 +75,8 @@ pub record IsStep (config : TargetFrontendConfig) (c : Call) (old new : Function
   pub name : OnOk result (new.func.now.name ≡ old.func.now.name)
   pub sound : OnOk result (new.failed ≡ false)
   pub refused : (why : Condition) → result ≡ Err (error.Refused why) → is_refusable c ≡ true
-  pub full : result ≡ Err error.Full → MeetsFullTable (numbers_at old.func.now answers) c old.func.now old.ctx.now
-  pub variables : OnOk result (new.ctx.now.variables ≡ types_after c old.ctx.now.variables)
+  pub full : result ≡ Err error.Full → MeetsFullTable (numbers_at old.func.now answers) c old.func.now old.ctx.now.parts
+  pub variables : OnOk result (new.ctx.now.parts.variables ≡ types_after c old.ctx.now.parts.variables)
 
 -- how many answers there are behind one call more
 one-answer-more : (script : List ScriptCall) (last : ScriptCall) (answers : List Answer) (answer : Answer) → length (ledger_of script).answers ≡ length answers
@@ -117,7 +117,7 @@ laid-block ledger (name ∷ names) (k ∷ numbers) x are found = by (same_name x
     by true same is later = (k, sym first ∙ ap Some (sym (names_equal x name same)))
     by false same is later = later is
 
-ready-answered : (naming : Naming) (declared : SignatureShape) (made : List AnsweredCall) (b : FunctionBuilder) (answers : List Answer) → IsReady naming declared made b answers
+ready-answered : {R : Type 0} (naming : Naming) (declared : SignatureShape) (made : List AnsweredCall) (b : FunctionBuilder R) (answers : List Answer) → IsReady naming declared made b answers
     → AreAnswered (ledger_after (script_of made))
 ready-answered naming declared made b answers ready = record {
   blocks = λ x there.
@@ -133,13 +133,13 @@ judged-same allowed other refused blamed result may blames judged =
     subst (λ (a : Bool). IsJudged a blamed result) may (subst (λ (r : Bool). IsJudged allowed r result) blames judged)
 
 -- names that lead to nothing lead as far behind the ledger's answers
-later-names : (naming : Naming) (declared : SignatureShape) (made : List AnsweredCall) (b : FunctionBuilder) (answers : List Answer) → IsReady naming declared made b answers
+later-names : {R : Type 0} (naming : Naming) (declared : SignatureShape) (made : List AnsweredCall) (b : FunctionBuilder R) (answers : List Answer) → IsReady naming declared made b answers
     → (name : Name) (k : ℕ) → name.place ≡ length answers + k → naming name ≡ answer_of (length (ledger_after (script_of made)).answers + k) name.answer
 later-names naming declared made b answers ready name k place =
     ready.later name k place ∙ ap (λ (n : ℕ). answer_of (n + k) name.answer) (sym (as_many made))
 
 -- names of entries stand for the same numbers in the script's ledger
-pub in-step-numbers : (config : TargetFrontendConfig) (declared : SignatureShape) (script : List ScriptCall) (b : FunctionBuilder) (answers : List Answer) → IsInStep config declared script b answers
+pub in-step-numbers : {R : Type 0} (config : TargetFrontendConfig) (declared : SignatureShape) (script : List ScriptCall) (b : FunctionBuilder R) (answers : List Answer) → IsInStep config declared script b answers
     → numbers_at b.func.now answers ≡ numbers_in name_of (ledger_of script)
 in-step-numbers config declared script b answers s =
     sym (numbers-same s.made b answers s.ready)
@@ -157,12 +157,12 @@ tried-refusable _ is = absurd (false≢true is)
 -- ASKING ------------------------------------------------------------------------------------------------------------------
 
 -- a call that emits nothing
-record Asks (config : TargetFrontendConfig) (c : Call) : Type 0 where
+record Asks (R : Type 0) (config : TargetFrontendConfig) (c : Call) : Type 0 where
   call : (declared : SignatureShape) (ledger : Ledger) → call_of config declared ledger c ≡ Ask (request_of declared ledger c)
-  makes : (old new : FunctionBuilder) (answers : List Answer) (result : Result Answer CallError) → MakesScriptCall config c old new answers result → MakesCall c old new answers result
+  makes : (old new : FunctionBuilder R) (answers : List Answer) (result : Result Answer CallError) → MakesScriptCall config c old new answers result → MakesCall c old new answers result
   refused_never : (declared : SignatureShape) (ledger : Ledger) → refusal_of ledger (request_of declared ledger c) ≡ None
 
-module _ (config : TargetFrontendConfig) (c : Call) (asks : Asks config c) (old new : FunctionBuilder) (answers : List Answer) where
+module _ {R : Type 0} (config : TargetFrontendConfig) (c : Call) (asks : Asks R config c) (old new : FunctionBuilder R) (answers : List Answer) where
   ask-judged : (result : Result Answer CallError) → MakesCall c old new answers result → (declared : SignatureShape) (script : List ScriptCall) → IsInStep config declared script old answers
       → IsJudgedOn (ledger_of script) (call_of config declared (ledger_of script) c) (is_tried c) result
   ask-judged result makes declared script s =
@@ -217,7 +217,7 @@ module _ (config : TargetFrontendConfig) (c : Call) (asks : Asks config c) (old 
 
 -- EMITTING ----------------------------------------------------------------------------------------------------------------
 
-module _ (config : TargetFrontendConfig) (called : ImmediateCall) (old new : FunctionBuilder) (answers : List Answer) where
+module _ {R : Type 0} (config : TargetFrontendConfig) (called : ImmediateCall) (old new : FunctionBuilder R) (answers : List Answer) where
   emission-judged : (result : Result Answer CallError) → MakesEmission called old new answers result → (declared : SignatureShape) (script : List ScriptCall) → IsInStep config declared script old answers
       → IsJudged (call_allowed (ledger_of script) (Emit [] (emission_under name_of (ledger_of script) called))) false result
   emission-judged result makes declared script s =
@@ -275,7 +275,7 @@ call-judged-same : (allowed other blamed refused also : Bool) (result : Result A
 call-judged-same allowed other blamed refused also result may told judged =
     subst (λ (a : Bool). IsCallJudged a blamed also result) may (subst (λ (r : Bool). IsCallJudged allowed blamed r result) told judged)
 
-module _ (config : TargetFrontendConfig) (entries : Vec SwitchEntry) (value otherwise : Name) (old new : FunctionBuilder) (answers : List Answer) where
+module _ {R : Type 0} (config : TargetFrontendConfig) (entries : Vec SwitchEntry) (value otherwise : Name) (old new : FunctionBuilder R) (answers : List Answer) where
   switch-judged : (result : Result Answer CallError) → MakesSwitch entries.items value otherwise old new answers result → (declared : SignatureShape) (script : List ScriptCall) → IsInStep config declared script old answers
       → IsSwitchJudged (ledger_of script) (switch_under name_of (ledger_of script) entries.items value otherwise) result
   switch-judged result makes declared script s =
@@ -330,7 +330,7 @@ module _ (config : TargetFrontendConfig) (entries : Vec SwitchEntry) (value othe
 
 -- HELPING -----------------------------------------------------------------------------------------------------------------
 
-module _ (config : TargetFrontendConfig) (called : MemoryCall) (moves : moves_nothing (operation_in called) ≡ false) (old new : FunctionBuilder) (answers : List Answer) where
+module _ {R : Type 0} (config : TargetFrontendConfig) (called : MemoryCall) (moves : moves_nothing (operation_in called) ≡ false) (old new : FunctionBuilder R) (answers : List Answer) where
   helper-judged : (result : Result Answer CallError) → MakesHelper config called old new answers result → (declared : SignatureShape) (script : List ScriptCall) → IsInStep config declared script old answers
       → IsJudged (call_allowed (ledger_of script) (helper_under config name_of (ledger_of script) called)) false result
   helper-judged result makes declared script s =
@@ -390,8 +390,8 @@ module _ (config : TargetFrontendConfig) (called : MemoryCall) (moves : moves_no
   }
 
 -- a copy or a fill of no bytes asks
-nothing-asks : (config : TargetFrontendConfig) (called : MemoryCall) → moves_nothing (operation_in called) ≡ true → Asks config (call.Memory called)
-nothing-asks config called moves = record {
+nothing-asks : (R : Type 0) (config : TargetFrontendConfig) (called : MemoryCall) → moves_nothing (operation_in called) ≡ true → Asks R config (call.Memory called)
+nothing-asks R config called moves = record {
   call = λ declared ledger. ap (λ (none : Bool). if none then Ask (nothing_moved name_of called) else helper_under config name_of ledger called) moves;
   makes = λ old new answers result is.
       subst (λ (none : Bool). MakesMoved none config called old new answers result) moves is;
@@ -399,31 +399,31 @@ nothing-asks config called moves = record {
 }
 
 -- each call is one of these
-data Kind (config : TargetFrontendConfig) : Call → Type 0 where
-  Computes : (called : ImmediateCall) → Kind config (call.Immediate called)
-  Switches : (entries : Vec SwitchEntry) (value otherwise : Name) → Kind config (call.Switch entries value otherwise)
-  Helps : (called : MemoryCall) → moves_nothing (operation_in called) ≡ false → Kind config (call.Memory called)
-  AsksOnly : (c : Call) → Asks config c → Kind config c
+data Kind (R : Type 0) (config : TargetFrontendConfig) : Call → Type 0 where
+  Computes : (called : ImmediateCall) → Kind R config (call.Immediate called)
+  Switches : (entries : Vec SwitchEntry) (value otherwise : Name) → Kind R config (call.Switch entries value otherwise)
+  Helps : (called : MemoryCall) → moves_nothing (operation_in called) ≡ false → Kind R config (call.Memory called)
+  AsksOnly : (c : Call) → Asks R config c → Kind R config c
 
-kind : (config : TargetFrontendConfig) (c : Call) → Kind config c
-kind config (call.Immediate called) = Computes called
-kind config (call.Switch entries value otherwise) = Switches entries value otherwise
-kind config (call.Memory called) = by (moves_nothing (operation_in called)) refl
+kind : (R : Type 0) (config : TargetFrontendConfig) (c : Call) → Kind R config c
+kind R config (call.Immediate called) = Computes called
+kind R config (call.Switch entries value otherwise) = Switches entries value otherwise
+kind R config (call.Memory called) = by (moves_nothing (operation_in called)) refl
   where
-    by : (none : Bool) → moves_nothing (operation_in called) ≡ none → Kind config (call.Memory called)
-    by true is = AsksOnly (call.Memory called) (nothing-asks config called is)
+    by : (none : Bool) → moves_nothing (operation_in called) ≡ none → Kind R config (call.Memory called)
+    by true is = AsksOnly (call.Memory called) (nothing-asks R config called is)
     by false is = Helps called is
-kind config (call.Outside (outside.Call function args)) = AsksOnly _ (record { call = λ declared ledger. refl; makes = λ old new answers result is. is; refused_never = λ declared ledger. refl })
-kind config (call.Outside (outside.CallIndirect signature callee args)) = AsksOnly _ (record { call = λ declared ledger. refl; makes = λ old new answers result is. is; refused_never = λ declared ledger. refl })
-kind config (call.Throwing (throwing.TryCall function args table)) = AsksOnly _ (record { call = λ declared ledger. refl; makes = λ old new answers result is. is; refused_never = λ declared ledger. refl })
-kind config (call.Throwing (throwing.TryCallIndirect callee args table)) = AsksOnly _ (record { call = λ declared ledger. refl; makes = λ old new answers result is. is; refused_never = λ declared ledger. refl })
-kind config _ = AsksOnly _ (record { call = λ declared ledger. refl; makes = λ old new answers result is. is; refused_never = λ declared ledger. refl })
+kind R config (call.Outside (outside.Call function args)) = AsksOnly _ (record { call = λ declared ledger. refl; makes = λ old new answers result is. is; refused_never = λ declared ledger. refl })
+kind R config (call.Outside (outside.CallIndirect signature callee args)) = AsksOnly _ (record { call = λ declared ledger. refl; makes = λ old new answers result is. is; refused_never = λ declared ledger. refl })
+kind R config (call.Throwing (throwing.TryCall function args table)) = AsksOnly _ (record { call = λ declared ledger. refl; makes = λ old new answers result is. is; refused_never = λ declared ledger. refl })
+kind R config (call.Throwing (throwing.TryCallIndirect callee args table)) = AsksOnly _ (record { call = λ declared ledger. refl; makes = λ old new answers result is. is; refused_never = λ declared ledger. refl })
+kind R config _ = AsksOnly _ (record { call = λ declared ledger. refl; makes = λ old new answers result is. is; refused_never = λ declared ledger. refl })
 
-pub step : (config : TargetFrontendConfig) (c : Call) (old new : FunctionBuilder) (answers : List Answer) (result : Result Answer CallError) → MakesScriptCall config c old new answers result
+pub step : {R : Type 0} (config : TargetFrontendConfig) (c : Call) (old new : FunctionBuilder R) (answers : List Answer) (result : Result Answer CallError) → MakesScriptCall config c old new answers result
     → IsStep config c old new answers result
-step config c old new answers result = by c (kind config c)
+step {R} config c old new answers result = by c (kind R config c)
   where
-    by : (one : Call) → Kind config one → MakesScriptCall config one old new answers result → IsStep config one old new answers result
+    by : (one : Call) → Kind R config one → MakesScriptCall config one old new answers result → IsStep config one old new answers result
     by one (Computes called) makes = emission-step config called old new answers result makes
     by one (Switches entries value otherwise) makes = switch-step config entries value otherwise old new answers result makes
     by one (Helps called moves) makes =

@@ -101,7 +101,7 @@ in-order true false true false = refl
 in-order true false false true = refl
 in-order true false false false = refl
 
-module _ {naming : Naming} {declared : SignatureShape} (calls : List AnsweredCall) (b : FunctionBuilder) (answers : List Answer) (ready : IsReady naming declared calls b answers) where
+module _ {R : Type 0} {naming : Naming} {declared : SignatureShape} (calls : List AnsweredCall) (b : FunctionBuilder R) (answers : List Answer) (ready : IsReady naming declared calls b answers) where
   abbrev ledger : Ledger
   ledger = ledger_of calls
 
@@ -136,12 +136,12 @@ module _ {naming : Naming} {declared : SignatureShape} (calls : List AnsweredCal
       ap (λ (targets : Bool). condition (acceptance.is_open ledger ledger.current) (has_value ledger (naming value)) targets (is_int (or_invalid (type_of ledger (naming value))))) (edges-same entries otherwise)
 
 -- the switch may be made in each ledger with which the builder agrees, or in none
-abbrev pub SwitchJudged : List SwitchEntry → (value otherwise : Name) → FunctionBuilder → List Answer → Bool → Type 0
+abbrev pub SwitchJudged : {R : Type 0} → List SwitchEntry → (value otherwise : Name) → FunctionBuilder R → List Answer → Bool → Type 0
 SwitchJudged entries value otherwise b answers allowed =
     (naming : Naming) (declared : SignatureShape) (calls : List AnsweredCall) → IsReady naming declared calls b answers
     → call_allowed (ledger_of calls) (Emit [] (switch_under naming (ledger_of calls) entries value otherwise)) ≡ allowed
 
-module _ (entries : List SwitchEntry) (value otherwise : Name) (b : FunctionBuilder) (answers : List Answer) where
+module _ {R : Type 0} (entries : List SwitchEntry) (value otherwise : Name) (b : FunctionBuilder R) (answers : List Answer) where
   pub value-judged : value_of b.func.now answers value ≡ None → SwitchJudged entries value otherwise b answers false
   value-judged none naming declared calls ready =
       let ledger : Ledger = ledger_of calls in
@@ -168,13 +168,13 @@ module _ (entries : List SwitchEntry) (value otherwise : Name) (b : FunctionBuil
       ∙ ap (λ (t : Option «Type»). condition (is_open b) true targets (is_int (or_invalid t))) (value-type-same calls b answers ready value val found)
       ∙ in-order (is_open b) (are_targets b answers entries) (is_target b (block_of answers otherwise)) (is_int (value_at b.func.now val).ty)
 
-pub judged-as : (entries : List SwitchEntry) (value otherwise : Name) (b : FunctionBuilder) (answers : List Answer) (c d : Bool) → c ≡ d → SwitchJudged entries value otherwise b answers c
+pub judged-as : {R : Type 0} (entries : List SwitchEntry) (value otherwise : Name) (b : FunctionBuilder R) (answers : List Answer) (c d : Bool) → c ≡ d → SwitchJudged entries value otherwise b answers c
     → SwitchJudged entries value otherwise b answers d
 judged-as entries value otherwise b answers c d same judges naming declared calls ready = judges naming declared calls ready ∙ same
 
 -- TARGETS -----------------------------------------------------------------------------------------------------------------
 
-target-is : (b : FunctionBuilder) (answers : List Answer) (name : Name) → is_target b (block_of answers name) ≡ true → (k : ℕ) × (block_of answers name ≡ Some k) × (can_seal b k ≡ true)
+target-is : {R : Type 0} (b : FunctionBuilder R) (answers : List Answer) (name : Name) → is_target b (block_of answers name) ≡ true → (k : ℕ) × (block_of answers name ≡ Some k) × (can_seal b k ≡ true)
 target-is b answers name is = by (block_of answers name) refl is
   where
     by : (o : Option ℕ) → block_of answers name ≡ o → is_target b o ≡ true → (k : ℕ) × (block_of answers name ≡ Some k) × (can_seal b k ≡ true)
@@ -199,7 +199,7 @@ found-case P p answers each entries all key block is = listed entries all (sym (
         by true found one later = subst P (same_Some (number_at answers entry.block) block found) one
         by false found one later = later found
 
-module _ {naming : Naming} {declared : SignatureShape} (calls : List AnsweredCall) (b : FunctionBuilder) (answers : List Answer) (ready : IsReady naming declared calls b answers) where
+module _ {R : Type 0} {naming : Naming} {declared : SignatureShape} (calls : List AnsweredCall) (b : FunctionBuilder R) (answers : List Answer) (ready : IsReady naming declared calls b answers) where
   abbrev names-of : ℕ → named.Name
   names-of k = unwrap_or (block_name (ledger_of calls) k) (named.answer_of 0 0)
 
@@ -226,7 +226,7 @@ module _ {naming : Naming} {declared : SignatureShape} (calls : List AnsweredCal
     pub number-leads : MayLead b (number_at answers name)
     number-leads = subst (MayLead b) (sym number-is) (record {
       exists = (read calls b answers ready).exists target.0 (naming name) block-named;
-      unsealed = by (is_yes (sealed_of b.ctx.now.ssa target.0)) target.2;
+      unsealed = by (is_yes (sealed_of b.ctx.now.parts.ssa target.0)) target.2;
     })
       where
         by : (c : Bool) → not c ≡ true → c ≡ false
@@ -279,7 +279,7 @@ module _ (entries : List SwitchEntry) (answers : List Answer) (once : are_twice 
   mapped-twice f [] = refl
   mapped-twice f (e ∷ list) = ap (λ rest. f (number_at answers e.1) ∷ rest) (mapped-twice f list)
 
-  module _ {naming : Naming} {declared : SignatureShape} (calls : List AnsweredCall) (b : FunctionBuilder) (ready : IsReady naming declared calls b answers)
+  module _ {R : Type 0} {naming : Naming} {declared : SignatureShape} (calls : List AnsweredCall) (b : FunctionBuilder R) (ready : IsReady naming declared calls b answers)
       (targets : are_targets b answers entries ≡ true) (otherwise : Name) (s : Switched) (named-by : s.named ≡ names-of calls b answers ready) (other-is : s.otherwise ≡ naming otherwise) where
     pub edges-are : edges_to naming entries otherwise ≡ case_edges s (cases_at answers entries)
     edges-are = sym (
@@ -330,7 +330,7 @@ no-failure x y apart same = apart (told x y same)
     told a c h = cc
 
 -- it may not be made
-pub switch-misused : {why : Condition} (entries : List SwitchEntry) (value otherwise : Name) (b : FunctionBuilder) (answers : List Answer) → SwitchJudged entries value otherwise b answers false
+pub switch-misused : {R : Type 0} {why : Condition} (entries : List SwitchEntry) (value otherwise : Name) (b : FunctionBuilder R) (answers : List Answer) → SwitchJudged entries value otherwise b answers false
     → MakesSwitch entries value otherwise b b answers (Err (error.Misuse why))
 switch-misused entries value otherwise b answers judges = record {
   loans = loans-stay b;
@@ -342,7 +342,7 @@ switch-misused entries value otherwise b answers judges = record {
 }
 
 -- its entries can't be set: memory is refused, or a key comes twice
-pub switch-unset : (entries : List SwitchEntry) (value otherwise : Name) (b : FunctionBuilder) (answers : List Answer) (e : CallError)
+pub switch-unset : {R : Type 0} (entries : List SwitchEntry) (value otherwise : Name) (b : FunctionBuilder R) (answers : List Answer) (e : CallError)
     → SwitchJudged entries value otherwise b answers true → ((why : Condition) × (e ≡ error.Refused why) × (are_twice entries ≡ true)) ⊎ (e ≡ error.Memory)
     → MakesSwitch entries value otherwise b b answers (Err e)
 switch-unset entries value otherwise b answers e judges (inr memory) = subst (λ (x : CallError). MakesSwitch entries value otherwise b b answers (Err x)) (sym memory) (record {
@@ -363,7 +363,7 @@ switch-unset entries value otherwise b answers e judges (inl (why, refused, twic
 })
 
 -- it isn't emitted: for its keys, or since a call of the builder failed
-module _ (law : RefusalsAreOfKeys) (entries : List SwitchEntry) (value otherwise : Name) (old new : FunctionBuilder) (answers : List Answer) (val other : ℕ)
+module _ {R : Type 0} (law : RefusalsAreOfKeys) (entries : List SwitchEntry) (value otherwise : Name) (old new : FunctionBuilder R) (answers : List Answer) (val other : ℕ)
     (found : value_of old.func.now answers value ≡ Some val) (once : are_twice entries ≡ false) (sound : old.failed ≡ false) (judges : SwitchJudged entries value otherwise old answers true) where
   failed-by : (e : BuildError) → Emits (cases_at answers entries) val other old new (Err (switch_error.Build e)) → MakesSwitch entries value otherwise old new answers (Err (call_error_of e))
   failed-by build.Memory emits = record {
@@ -468,7 +468,7 @@ few : (n : ℕ) → n ≤ 2 ^ n
 few zero = omega arith
 few (suc n) = let rest = few n in let more = pow_below n (suc n) (omega arith) in omega (arith, rest, more)
 
-module _ (law : RefusalsAreOfKeys) (entries : List SwitchEntry) (value otherwise : Name) (old new : FunctionBuilder) (answers : List Answer) (val other : ℕ)
+module _ {R : Type 0} (law : RefusalsAreOfKeys) (entries : List SwitchEntry) (value otherwise : Name) (old new : FunctionBuilder R) (answers : List Answer) (val other : ℕ)
     (found : value_of old.func.now answers value ≡ Some val) (at : block_of answers otherwise ≡ Some other) (can : can_switch_on old answers entries val otherwise ≡ true)
     (once : are_twice entries ≡ false) (emits : Emits (cases_at answers entries) val other old new (Ok tt)) where
   module _ {naming : Naming} {declared : SignatureShape} (calls : List AnsweredCall) (ready : IsReady naming declared calls old answers) where

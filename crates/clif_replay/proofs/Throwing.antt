@@ -60,7 +60,7 @@ use Rattle.clif_replay.proofs.ReadyLaws.{edge-found, edge-missing, ready-answere
 
 -- THE TABLE -------------------------------------------------------------------------------------------------------------
 
-module _ {naming : Naming} {declared : SignatureShape} (calls : List AnsweredCall) (b : FunctionBuilder) (answers : List Answer) (ready : IsReady naming declared calls b answers) where
+module _ {R : Type 0} {naming : Naming} {declared : SignatureShape} (calls : List AnsweredCall) (b : FunctionBuilder R) (answers : List Answer) (ready : IsReady naming declared calls b answers) where
   -- a name is that of an edge in the ledger where it leads to one here
   edge-tested : {X : Type 0} (f : BlockCall → X) (name : Name) → is_some (edge_named (ledger_of calls) (naming name)) ≡ is_some (option_map f (edge_at answers name))
   edge-tested f name = by (edge_at answers name) refl
@@ -191,7 +191,7 @@ exceptions-there f answers normal items edge made at found =
     and_from (is_some (edge_at answers normal)) (all_items f answers items) (ap is_some at) (items-there f answers items made found)
 
 -- a table was made
-pub exceptions-ready : TableCallsAddNothing → {naming : Naming} {declared : SignatureShape} (calls : List AnsweredCall) (old new : FunctionBuilder) (answers : List Answer) (signature : ℕ) (normal : Name)
+pub exceptions-ready : {R : Type 0} → TableCallsAddNothing → {naming : Naming} {declared : SignatureShape} (calls : List AnsweredCall) (old new : FunctionBuilder R) (answers : List Answer) (signature : ℕ) (normal : Name)
     (items : List TableItem) (given : ExceptionTableData) (number : ℕ) → IsReady naming declared calls old answers → given.sig ≡ signature → edge_at answers normal ≡ Some given.normal
     → map (item_in old.func.now answers) items ≡ map Some given.items.items → CreatesExceptionTable given old new (Ok number)
     → IsReadyAfter naming declared calls (MakeExceptionTable signature (naming normal) (map (item_of naming) items)) new answers (answer.Entry (entry.ExceptionTable number))
@@ -216,7 +216,7 @@ exceptions-ready law {naming} {declared} calls old new answers signature normal 
     counts = creates.number ∙ sym (as-many (NamesExceptions calls) (ledger_of calls).exception_tables old.func.now.tables.exception_tables ready.exceptions)
 
     stands : StandsFor declared (calls ++ call ∷ []) new
-    stands = law.exceptions declared calls new signature (naming normal) (map (item_of naming) items) number counts (creates.sets.stands declared calls ready.stands)
+    stands = law.exceptions declared calls new.func.now new.ctx.now.parts new.position signature (naming normal) (map (item_of naming) items) number counts (creates.sets.stands declared calls ready.stands)
 
     exceptions : TablesAgree (NamesExceptions (calls ++ call ∷ [])) (ledger_of (calls ++ call ∷ [])).exception_tables new.func.now.tables.exception_tables
     exceptions =
@@ -269,7 +269,7 @@ contexts-there calls (name ∷ names) (value ∷ values) names-them =
     and_from (has_value (ledger_of calls) name) (list_all (has_value (ledger_of calls)) names) names-them.0.is_value (contexts-there calls names values names-them.1)
 
 -- a call of this function along the edges of this table is allowed where it may be made, and so is one of an address
-function-same : {naming : Naming} {declared : SignatureShape} (calls : List AnsweredCall) (b : FunctionBuilder) (answers : List Answer) → IsReady naming declared calls b answers
+function-same : {R : Type 0} {naming : Naming} {declared : SignatureShape} (calls : List AnsweredCall) (b : FunctionBuilder R) (answers : List Answer) → IsReady naming declared calls b answers
     → (function table : ℕ) (args : List Name) → allows (ledger_of calls) (try_call (ledger_of calls) function (map naming args) table)
     ≡ ((is_open b && all_values b.func.now answers args) && (nat_lt function (length b.func.now.tables.functions) && tries b table))
 function-same {naming} calls b answers ready function table args = by (table_held exception_tables b table) refl
@@ -294,7 +294,7 @@ function-same {naming} calls b answers ready function table args = by (table_hel
         (function-in-order (nat_lt function (length b.func.now.tables.functions)) (nat_lt made.sig (length b.func.now.tables.signatures)) (is_open b)
         (all_values b.func.now answers args) (list_all (λ edge. can_seal b edge.block) made.edges) ∙ sym right)
 
-address-same : {naming : Naming} {declared : SignatureShape} (calls : List AnsweredCall) (b : FunctionBuilder) (answers : List Answer) → IsReady naming declared calls b answers
+address-same : {R : Type 0} {naming : Naming} {declared : SignatureShape} (calls : List AnsweredCall) (b : FunctionBuilder R) (answers : List Answer) → IsReady naming declared calls b answers
     → (callee : Name) (table : ℕ) (args : List Name) → allows (ledger_of calls) (try_call_indirect (ledger_of calls) (naming callee) (map naming args) table)
     ≡ ((is_open b && all_values b.func.now answers (callee ∷ args)) && (true && tries b table))
 address-same {naming} calls b answers ready callee table args = by (table_held exception_tables b table) refl
@@ -319,7 +319,7 @@ address-same {naming} calls b answers ready callee table args = by (table_held e
         (address-in-order (nat_lt made.sig (length b.func.now.tables.signatures)) (is_open b) (all_values b.func.now answers (callee ∷ args))
         (list_all (λ edge. can_seal b edge.block) made.edges) ∙ sym right)
 
-pub throwing-same : {naming : Naming} {declared : SignatureShape} (calls : List AnsweredCall) (b : FunctionBuilder) (answers : List Answer) → IsReady naming declared calls b answers
+pub throwing-same : {R : Type 0} {naming : Naming} {declared : SignatureShape} (calls : List AnsweredCall) (b : FunctionBuilder R) (answers : List Answer) → IsReady naming declared calls b answers
     → (called : ThrowingCall) → allows (ledger_of calls) (throwing_request (numbers_at b.func.now answers) naming (ledger_of calls) called) ≡ can_try b answers called
 throwing-same calls b answers ready (throwing.TryCall function args table) =
     function-same calls b answers ready (numbers_at b.func.now answers Functions function) (numbers_at b.func.now answers ExceptionTables table) args.items
@@ -327,11 +327,11 @@ throwing-same calls b answers ready (throwing.TryCallIndirect callee args table)
     address-same calls b answers ready callee (numbers_at b.func.now answers ExceptionTables table) args.items
 
 -- the parts of its condition
-pub can-open : (b : FunctionBuilder) (answers : List Answer) (called : ThrowingCall) → can_try b answers called ≡ true → is_open b ≡ true
+pub can-open : {R : Type 0} (b : FunctionBuilder R) (answers : List Answer) (called : ThrowingCall) → can_try b answers called ≡ true → is_open b ≡ true
 can-open b answers called may =
     (and_parts (is_open b) _ (and_parts (is_open b && all_values b.func.now answers (tried_operands called)) (has_callee b.func.now answers called && tries b (table_in b.func.now answers called)) may).0).0
 
-can-serve : (b : FunctionBuilder) (answers : List Answer) (called : ThrowingCall) → can_try b answers called ≡ true → (has_callee b.func.now answers called && tries b (table_in b.func.now answers called)) ≡ true
+can-serve : {R : Type 0} (b : FunctionBuilder R) (answers : List Answer) (called : ThrowingCall) → can_try b answers called ≡ true → (has_callee b.func.now answers called && tries b (table_in b.func.now answers called)) ≡ true
 can-serve b answers called may = (and_parts (is_open b && all_values b.func.now answers (tried_operands called)) (has_callee b.func.now answers called && tries b (table_in b.func.now answers called)) may).1
 
 -- what a list passes as values exists as values
@@ -341,7 +341,7 @@ values-exist f (value ∷ values) all zero d below = all 0 (arg.Value value) (om
 values-exist f (value ∷ values) all (suc k) d below = values-exist f values (λ j e under. all (suc j) e (omega (arith, under))) k d (omega (arith, below))
 
 -- its table may serve
-pub trying : {naming : Naming} {declared : SignatureShape} (calls : List AnsweredCall) (b : FunctionBuilder) (answers : List Answer) → IsReady naming declared calls b answers
+pub trying : {R : Type 0} {naming : Naming} {declared : SignatureShape} (calls : List AnsweredCall) (b : FunctionBuilder R) (answers : List Answer) → IsReady naming declared calls b answers
     → (called : ThrowingCall) → can_try b answers called ≡ true → MayServeTry b (table_in b.func.now answers called)
 trying calls b answers ready called may = by (table_held exception_tables b (table_in b.func.now answers called)) refl
   where
@@ -380,7 +380,7 @@ throwing-count tables numbers (throwing.TryCall function args table) values held
 throwing-count tables numbers (throwing.TryCallIndirect callee args table) values held = omega arith
 
 -- what it names exists behind the taking
-pub throwing-entries : (old between : FunctionBuilder) (answers : List Answer) (called : ThrowingCall) (values : List ℕ) (held : ExceptionShape) → can_try old answers called ≡ true
+pub throwing-entries : {R : Type 0} (old between : FunctionBuilder R) (answers : List Answer) (called : ThrowingCall) (values : List ℕ) (held : ExceptionShape) → can_try old answers called ≡ true
     → TakesExceptionTable old between (table_in old.func.now answers called) (Ok held) → held.sig < length between.func.now.tables.signatures
     → All (EntryExists between.func.now.tables) (entries_of (throwing_shape (numbers_at old.func.now answers) called values held))
 throwing-entries old between answers (throwing.TryCall function args table) values held may takes signature =
@@ -392,7 +392,7 @@ throwing-entries old between answers (throwing.TryCall function args table) valu
 throwing-entries old between answers (throwing.TryCallIndirect callee args table) values held may takes signature =
     All-cons (EntryExists between.func.now.tables) (ASignatureRef held.sig) [] signature (All-nil (EntryExists between.func.now.tables))
 
-pub throwing-exist : {naming : Naming} {declared : SignatureShape} (calls : List AnsweredCall) (old between : FunctionBuilder) (answers : List Answer) → IsReady naming declared calls old answers
+pub throwing-exist : {R : Type 0} {naming : Naming} {declared : SignatureShape} (calls : List AnsweredCall) (old between : FunctionBuilder R) (answers : List Answer) → IsReady naming declared calls old answers
     → (called : ThrowingCall) (values : List ℕ) (held : ExceptionShape) → map (value_of old.func.now answers) (tried_operands called) ≡ map Some values
     → length old.func.now.values ≤ length between.func.now.values
     → (k : ℕ) → k < length (operands (throwing_shape (numbers_at old.func.now answers) called values held)) → slice_index (operands (throwing_shape (numbers_at old.func.now answers) called values held)) k < length between.func.now.values
@@ -401,7 +401,7 @@ throwing-exist calls old between answers ready called values held found grows =
     (λ k inside. let below : slice_index values k < length old.func.now.values = all-exist calls old answers ready (tried_operands called) values found k inside in omega (arith, below, grows))
 
 -- a taking finds no full table, and what is built behind it fails as the builder did before
-pub never-full : {old between : FunctionBuilder} {table : ℕ} (told : Result ExceptionShape BuildError) → TakesExceptionTable old between table told → told ≡ Err Full → ⊥
+pub never-full : {R : Type 0} {old between : FunctionBuilder R} {table : ℕ} (told : Result ExceptionShape BuildError) → TakesExceptionTable old between table told → told ≡ Err Full → ⊥
 never-full (Ok held) takes is = cc
 never-full (Err error) takes is = let failed = takes.only_failed in cc
 
@@ -412,20 +412,20 @@ not-failed told old between sound still tells = (
 )
 
 -- it asks for its shape, in any builder that stands for the calls
-throwing-asked : RequestsAskForTheirShapes → {naming : Naming} {declared : SignatureShape} (calls : List AnsweredCall) (old between : FunctionBuilder) (answers : List Answer) → IsReady naming declared calls old answers
+throwing-asked : {R : Type 0} → RequestsAskForTheirShapes → {naming : Naming} {declared : SignatureShape} (calls : List AnsweredCall) (old between : FunctionBuilder R) (answers : List Answer) → IsReady naming declared calls old answers
     → StandsFor declared calls between → (numbers : Numbers) (called : ThrowingCall) (values : List ℕ) (made : ExceptionShape) → map (value_of old.func.now answers) (tried_operands called) ≡ map Some values
     → table_held exception_tables old (numbers ExceptionTables (table_of called)) ≡ Some made
     → AsksForShape calls between.func.now (throwing_request numbers naming (ledger_of calls) called) (throwing_shape numbers called values made) Invalid
 throwing-asked shapes {naming} calls old between answers ready stands numbers (throwing.TryCall function args table) values made found at =
     let held = exceptions-held calls old answers ready (numbers ExceptionTables table) made at in
-    (shapes calls between.func.now between.ctx.now between.position stands.ledger).try_call (numbers Functions function) (numbers ExceptionTables table) (map naming args.items) values held.0 made
+    (shapes calls between.func.now between.ctx.now.parts between.position stands.ledger).try_call (numbers Functions function) (numbers ExceptionTables table) (map naming args.items) values held.0 made
     (all-named calls old answers ready args.items values found) held.1 held.2
 throwing-asked shapes {naming} calls old between answers ready stands numbers (throwing.TryCallIndirect callee args table) [] made found at = let no_way : ⊥ = cc in absurd no_way
 throwing-asked shapes {naming} calls old between answers ready stands numbers (throwing.TryCallIndirect callee args table) (address ∷ values) made found at =
     let here : value_of old.func.now answers callee ≡ Some address = cc in
     let rest : map (value_of old.func.now answers) args.items ≡ map Some values = cc in
     let held = exceptions-held calls old answers ready (numbers ExceptionTables table) made at in
-    (shapes calls between.func.now between.ctx.now between.position stands.ledger).try_call_indirect (numbers ExceptionTables table) (naming callee) address (map naming args.items) values held.0 made
+    (shapes calls between.func.now between.ctx.now.parts between.position stands.ledger).try_call_indirect (numbers ExceptionTables table) (naming callee) address (map naming args.items) values held.0 made
     (value-found calls old answers ready callee address here) (all-named calls old answers ready args.items values rest) held.1 held.2
 
 is-answered : (numbers : Numbers) (naming : Naming) (ledger : Ledger) (called : ThrowingCall) (inst : ℕ) (results : List ℕ) → AnswerIs (answer.Inst inst) (answers_to ledger (throwing_request numbers naming ledger called)) (inst ∷ results)
@@ -441,7 +441,7 @@ one-taken numbers naming ledger (throwing.TryCall function args table) = refl
 one-taken numbers naming ledger (throwing.TryCallIndirect callee args table) = refl
 
 -- it was made
-pub throwing-ready : RequestsAskForTheirShapes → {naming : Naming} {declared : SignatureShape} (calls : List AnsweredCall) (old between new : FunctionBuilder) (answers : List Answer) (called : ThrowingCall)
+pub throwing-ready : {R : Type 0} → RequestsAskForTheirShapes → {naming : Naming} {declared : SignatureShape} (calls : List AnsweredCall) (old between new : FunctionBuilder R) (answers : List Answer) (called : ThrowingCall)
     (values : List ℕ) (made : ExceptionShape) (inst : ℕ) → IsReady naming declared calls old answers → map (value_of old.func.now answers) (tried_operands called) ≡ map Some values
     → TakesExceptionTable old between (table_in old.func.now answers called) (Ok made) → Builds between new (throwing_shape (numbers_at old.func.now answers) called values made) Invalid (Ok inst)
     → IsReadyAfter naming declared calls (throwing_request (numbers_at old.func.now answers) naming (ledger_of calls) called) new answers (answer.Inst inst)

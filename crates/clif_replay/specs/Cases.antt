@@ -64,11 +64,11 @@ abbrev pub cases_at : List Answer → List SwitchEntry → CaseMap
 cases_at answers entries = finite.from_entries (map (λ entry. (entry.key, number_at answers entry.block)) entries)
 
 -- each entry leads to a block that isn't sealed
-abbrev pub are_targets : FunctionBuilder → List Answer → List SwitchEntry → Bool
+abbrev pub are_targets : {R : Type 0} → FunctionBuilder R → List Answer → List SwitchEntry → Bool
 are_targets b answers entries = list_all (λ entry. is_target b (block_of answers entry.block)) entries
 
 -- a switch of this value may be made: in a current unfilled block, of an integer, to such blocks
-abbrev pub can_switch_on : FunctionBuilder → List Answer → List SwitchEntry → (value : ℕ) → (otherwise : named.Name) → Bool
+abbrev pub can_switch_on : {R : Type 0} → FunctionBuilder R → List Answer → List SwitchEntry → (value : ℕ) → (otherwise : named.Name) → Bool
 can_switch_on b answers entries value otherwise =
     is_open b && is_int (value_at b.func.now value).ty && is_target b (block_of answers otherwise) && are_targets b answers entries
 

@@ -72,17 +72,17 @@ plain_calls_under naming ledger place called =
     constant_calls (plain_in called) (operand_type naming ledger called) (constant_in called) place (naming (operand_in called))
 
 -- in the current block, whose terminator wasn't appended, an integer may be an operand beside a constant
-abbrev pub can_take_constant : FunctionBuilder → (value : ℕ) → Bool
+abbrev pub can_take_constant : {R : Type 0} → FunctionBuilder R → (value : ℕ) → Bool
 can_take_constant b value = is_open b && is_int (type_in b value)
 
 -- The plain arithmetic on this value and the constant was built behind it, or an error ended that.
-abbrev pub BuildsEmission : ImmediateCall → (x : ℕ) → (old new : FunctionBuilder) → Result ℕ BuildError → Type 0
+abbrev pub BuildsEmission : {R : Type 0} → ImmediateCall → (x : ℕ) → (old new : FunctionBuilder R) → Result ℕ BuildError → Type 0
 BuildsEmission called x old new answer =
     BuildsWithConstant BuildsValue BuildsLike (shape_in called x) (type_in old x) (constant_in called) x old new answer
 
 -- The builder stands for some more calls, which asked this. The answer at the end of the list is known as the results of the last
 -- one, behind its number, and earlier ones are known as before.
-pub record IsReadyBehind (naming : Naming) (declared : SignatureShape) (calls : List AnsweredCall) (plain : Script) (b : FunctionBuilder) (answers : List Answer) (answer : Answer) : Type 0 where
+pub record IsReadyBehind {R : Type 0} (naming : Naming) (declared : SignatureShape) (calls : List AnsweredCall) (plain : Script) (b : FunctionBuilder R) (answers : List Answer) (answer : Answer) : Type 0 where
   pub added : List AnsweredCall
   pub asked : script_of added ≡ plain
   pub last : ℕ
@@ -94,7 +94,7 @@ pub record IsReadyBehind (naming : Naming) (declared : SignatureShape) (calls : 
 
 -- A call was made that is an emission of the script, or wasn't. It is never refused. `Full` is told only where a table was full at
 -- one of its instructions, and variables have the types that they had.
-pub record MakesEmission (called : ImmediateCall) (old new : FunctionBuilder) (answers : List Answer) (result : Result Answer CallError) : Type 0 where
+pub record MakesEmission {R : Type 0} (called : ImmediateCall) (old new : FunctionBuilder R) (answers : List Answer) (result : Result Answer CallError) : Type 0 where
   pub loans : SameLoans old new
   pub name : OnOk result (new.func.now.name ≡ old.func.now.name)
   pub ready : (naming : Naming) (declared : SignatureShape) (calls : List AnsweredCall) → IsReady naming declared calls old answers
@@ -104,7 +104,7 @@ pub record MakesEmission (called : ImmediateCall) (old new : FunctionBuilder) (a
   pub sound : OnOk result (new.failed ≡ false)
   pub refused : (why : Condition) → result ≢ Err (error.Refused why)
   pub full : result ≡ Err error.Full → EmissionMeetsFullTable old.func.now
-  pub variables : OnOk result (new.ctx.now.variables ≡ old.ctx.now.variables)
+  pub variables : OnOk result (new.ctx.now.parts.variables ≡ old.ctx.now.parts.variables)
 
 -- SWITCHES ----------------------------------------------------------------------------------------------------------------
 
@@ -114,7 +114,7 @@ IsSwitchJudged ledger switch result = IsCallJudged (call_allowed ledger (Emit []
 
 -- The builder stands for some more calls, which are code of the switch. It has no answer: the names at the end of the list lead
 -- behind all answers of the last call. Earlier ones are known as before.
-pub record IsReadyBehindSwitch (naming : Naming) (declared : SignatureShape) (calls : List AnsweredCall) (switch : Instruction named.Name named.Name) (b : FunctionBuilder) (answers : List Answer) (answer : Answer) : Type 0 where
+pub record IsReadyBehindSwitch {R : Type 0} (naming : Naming) (declared : SignatureShape) (calls : List AnsweredCall) (switch : Instruction named.Name named.Name) (b : FunctionBuilder R) (answers : List Answer) (answer : Answer) : Type 0 where
   pub added : List AnsweredCall
   pub block : named.Name
   pub value : named.Name
@@ -137,7 +137,7 @@ pub record IsReadyBehindSwitch (naming : Naming) (declared : SignatureShape) (ca
   pub ready : IsReady extended declared (calls ++ added) b (answers ++ answer ∷ [])
 
 -- A switch was made, or wasn't. It is refused for its keys alone. Variables have the types that they had.
-pub record MakesSwitch (entries : List SwitchEntry) (value otherwise : Name) (old new : FunctionBuilder) (answers : List Answer) (result : Result Answer CallError) : Type 0 where
+pub record MakesSwitch {R : Type 0} (entries : List SwitchEntry) (value otherwise : Name) (old new : FunctionBuilder R) (answers : List Answer) (result : Result Answer CallError) : Type 0 where
   pub loans : SameLoans old new
   pub name : OnOk result (new.func.now.name ≡ old.func.now.name)
   pub ready : (naming : Naming) (declared : SignatureShape) (calls : List AnsweredCall) → IsReady naming declared calls old answers
@@ -145,13 +145,13 @@ pub record MakesSwitch (entries : List SwitchEntry) (value otherwise : Name) (ol
   pub judged : (naming : Naming) (declared : SignatureShape) (calls : List AnsweredCall) → IsReady naming declared calls old answers
       → IsSwitchJudged (ledger_of calls) (switch_under naming (ledger_of calls) entries value otherwise) result
   pub sound : OnOk result (new.failed ≡ false)
-  pub variables : OnOk result (new.ctx.now.variables ≡ old.ctx.now.variables)
+  pub variables : OnOk result (new.ctx.now.parts.variables ≡ old.ctx.now.parts.variables)
 
 -- HELPERS -----------------------------------------------------------------------------------------------------------------
 
 -- The builder was asked the calls of a memory helper, which are a line that stands for its emission. Names at the end of the list
 -- lead to what the last call gives, or, where the helper answers nothing, behind all of that. Earlier ones are known as before.
-pub record IsReadyBehindHelper (config : TargetFrontendConfig) (called : MemoryCall) (naming : Naming) (declared : SignatureShape) (calls : List AnsweredCall) (b : FunctionBuilder) (answers : List Answer) (answer : Answer) : Type 0 where
+pub record IsReadyBehindHelper {R : Type 0} (config : TargetFrontendConfig) (called : MemoryCall) (naming : Naming) (declared : SignatureShape) (calls : List AnsweredCall) (b : FunctionBuilder R) (answers : List Answer) (answer : Answer) : Type 0 where
   pub filling : ℤ
   pub fills : FillsWith (operation_in called) filling
   pub sized : IsSized (operation_in called)
@@ -170,7 +170,7 @@ pub record IsReadyBehindHelper (config : TargetFrontendConfig) (called : MemoryC
   pub ready : IsReady extended declared (calls ++ added) b (answers ++ answer ∷ [])
 
 -- A helper of some bytes was made, or wasn't. It is never refused, and variables have the types that they had.
-pub record MakesHelper (config : TargetFrontendConfig) (called : MemoryCall) (old new : FunctionBuilder) (answers : List Answer) (result : Result Answer CallError) : Type 0 where
+pub record MakesHelper {R : Type 0} (config : TargetFrontendConfig) (called : MemoryCall) (old new : FunctionBuilder R) (answers : List Answer) (result : Result Answer CallError) : Type 0 where
   pub loans : SameLoans old new
   pub name : OnOk result (new.func.now.name ≡ old.func.now.name)
   pub ready : (naming : Naming) (declared : SignatureShape) (calls : List AnsweredCall) → IsReady naming declared calls old answers
@@ -179,14 +179,14 @@ pub record MakesHelper (config : TargetFrontendConfig) (called : MemoryCall) (ol
       → IsJudged (call_allowed (ledger_of calls) (helper_under config naming (ledger_of calls) called)) false result
   pub sound : OnOk result (new.failed ≡ false)
   pub refused : (why : Condition) → result ≢ Err (error.Refused why)
-  pub variables : OnOk result (new.ctx.now.variables ≡ old.ctx.now.variables)
+  pub variables : OnOk result (new.ctx.now.parts.variables ≡ old.ctx.now.parts.variables)
 
 -- A copy or a fill of no bytes asks only for its condition.
-abbrev pub MakesMoved : (nothing : Bool) → TargetFrontendConfig → MemoryCall → FunctionBuilder → FunctionBuilder → List Answer → Result Answer CallError → Type 0
+abbrev pub MakesMoved : {R : Type 0} (nothing : Bool) → TargetFrontendConfig → MemoryCall → FunctionBuilder R → FunctionBuilder R → List Answer → Result Answer CallError → Type 0
 MakesMoved true config called old new answers result = MakesCall (call.Memory called) old new answers result
 MakesMoved false config called old new answers result = MakesHelper config called old new answers result
 
-abbrev pub MakesMemory : TargetFrontendConfig → MemoryCall → FunctionBuilder → FunctionBuilder → List Answer → Result Answer CallError → Type 0
+abbrev pub MakesMemory : {R : Type 0} → TargetFrontendConfig → MemoryCall → FunctionBuilder R → FunctionBuilder R → List Answer → Result Answer CallError → Type 0
 MakesMemory config called old new answers result = MakesMoved (moves_nothing (operation_in called)) config called old new answers result
 
 -- what a helper answers, as the answer of the list
@@ -199,13 +199,13 @@ as_value (Ok value) = Ok (answer.Values value 1)
 as_value (Err error) = Err error
 
 -- The helper was called on the builder, and this told.
-abbrev pub IsHelped : LastResults → TargetFrontendConfig → ByteOperation → List ℕ → FunctionBuilder → FunctionBuilder → Result Answer BuildError → Type 0
+abbrev pub IsHelped : {R : Type 0} → LastResults → TargetFrontendConfig → ByteOperation → List ℕ → FunctionBuilder R → FunctionBuilder R → Result Answer BuildError → Type 0
 IsHelped AreGenerated config operation operands old new result =
     (done : Result (Unit {0}) BuildError) × (result ≡ as_nothing done) × Helps config operation operands old new done
 IsHelped AreGiven config operation operands old new result =
     (value : Result ℕ BuildError) × (result ≡ as_value value) × Answers config operation operands old new value
 
-abbrev pub CallsHelper : TargetFrontendConfig → ByteOperation → List ℕ → FunctionBuilder → FunctionBuilder → Result Answer BuildError → Type 0
+abbrev pub CallsHelper : {R : Type 0} → TargetFrontendConfig → ByteOperation → List ℕ → FunctionBuilder R → FunctionBuilder R → Result Answer BuildError → Type 0
 CallsHelper config operation operands old new result = IsHelped (how_of operation) config operation operands old new result
 
 -- all values of these
@@ -224,7 +224,7 @@ abbrev pub AreOperands : Body → List Answer → MemoryCall → Operands → Ty
 AreOperands f answers called values = map (value_of f answers) (operands_in called) ≡ map Some (values_in called values)
 
 -- what the function does that makes any call of a script for this target
-abbrev pub MakesScriptCall : TargetFrontendConfig → Call → FunctionBuilder → FunctionBuilder → List Answer → Result Answer CallError → Type 0
+abbrev pub MakesScriptCall : {R : Type 0} → TargetFrontendConfig → Call → FunctionBuilder R → FunctionBuilder R → List Answer → Result Answer CallError → Type 0
 MakesScriptCall config (call.Immediate called) old new answers result = MakesEmission called old new answers result
 MakesScriptCall config (call.Switch entries value otherwise) old new answers result = MakesSwitch entries.items value otherwise old new answers result
 MakesScriptCall config (call.Memory called) old new answers result = MakesMemory config called old new answers result

@@ -72,12 +72,12 @@ abbrev pub IsNamed : Body → List Answer → (value : ℕ) → Type 0
 IsNamed f answers value = (name : named.Name) × (value_of f answers name ≡ Some value)
 
 -- the value may be the second operand: of `Memset` an I8
-abbrev pub may_be_second : FunctionBuilder → ByteOperation → (value : ℕ) → Bool
+abbrev pub may_be_second : {R : Type 0} → FunctionBuilder R → ByteOperation → (value : ℕ) → Bool
 may_be_second b (CallLibrary Memset) value = same_type (value_at b.func.now value).ty i8
 may_be_second b _ value = true
 
 -- a helper may be made, in a current block whose terminator wasn't appended
-abbrev pub can_help : FunctionBuilder → PointerWidth → ByteOperation → (second : ℕ) → Bool
+abbrev pub can_help : {R : Type 0} → FunctionBuilder R → PointerWidth → ByteOperation → (second : ℕ) → Bool
 can_help b width operation second = is_open b && may_be_second b operation second && may_make width operation
 
 -- which of the last call's answers is the helper's first one: the result behind the instruction's number, or none, behind all

@@ -32,7 +32,7 @@ use Rattle.clif_replay.specs.Requests.{Naming, is_tried, item_of, request_in, re
 
 -- A call was made, which asked this under each naming, or wasn't. It is refused only if it is only tried. `Full` is told only
 -- where `Meets` holds, and variables have these types afterwards.
-pub record Makes (asks : Naming → SignatureShape → Ledger → Request) (tried : Bool) (Meets : Type 0) (types : List «Type») (old new : FunctionBuilder) (answers : List Answer) (result : Result Answer CallError) : Type 0 where
+pub record Makes {R : Type 0} (asks : Naming → SignatureShape → Ledger → Request) (tried : Bool) (Meets : Type 0) (types : List «Type») (old new : FunctionBuilder R) (answers : List Answer) (result : Result Answer CallError) : Type 0 where
   pub loans : SameLoans old new
   pub name : OnOk result (new.func.now.name ≡ old.func.now.name)
   pub ready : (naming : Naming) (declared : SignatureShape) (calls : List AnsweredCall) → IsReady naming declared calls old answers
@@ -42,40 +42,40 @@ pub record Makes (asks : Naming → SignatureShape → Ledger → Request) (trie
   pub sound : OnOk result (new.failed ≡ false)
   pub refused : (why : Condition) → result ≡ Err (error.Refused why) → tried ≡ true
   pub full : result ≡ Err error.Full → Meets
-  pub variables : OnOk result (new.ctx.now.variables ≡ types)
+  pub variables : OnOk result (new.ctx.now.parts.variables ≡ types)
 
 -- for this call
-abbrev pub MakesCall : Call → FunctionBuilder → FunctionBuilder → List Answer → Result Answer CallError → Type 0
+abbrev pub MakesCall : {R : Type 0} → Call → FunctionBuilder R → FunctionBuilder R → List Answer → Result Answer CallError → Type 0
 MakesCall call old new answers result =
-    Makes (λ naming declared ledger. request_under naming declared ledger call) (is_tried call) (MeetsFullTable (numbers_at old.func.now answers) call old.func.now old.ctx.now) (types_after call old.ctx.now.variables) old new answers result
+    Makes (λ naming declared ledger. request_under naming declared ledger call) (is_tried call) (MeetsFullTable (numbers_at old.func.now answers) call old.func.now old.ctx.now.parts) (types_after call old.ctx.now.parts.variables) old new answers result
 
 -- for an instruction of this plan
-abbrev pub MakesPlan : Plan → FunctionBuilder → FunctionBuilder → List Answer → Result Answer CallError → Type 0
+abbrev pub MakesPlan : {R : Type 0} → Plan → FunctionBuilder R → FunctionBuilder R → List Answer → Result Answer CallError → Type 0
 MakesPlan plan old new answers result =
-    Makes (λ naming declared ledger. request_in (numbers_in naming ledger) naming ledger plan) false (PlanMeetsFullTable plan old.func.now) old.ctx.now.variables old new answers result
+    Makes (λ naming declared ledger. request_in (numbers_in naming ledger) naming ledger plan) false (PlanMeetsFullTable plan old.func.now) old.ctx.now.parts.variables old new answers result
 
 -- for an instruction of a pooled constant
-abbrev pub MakesConstant : PooledConstOpcode → «Type» → List ℕ → FunctionBuilder → FunctionBuilder → List Answer → Result Answer CallError → Type 0
+abbrev pub MakesConstant : {R : Type 0} → PooledConstOpcode → «Type» → List ℕ → FunctionBuilder R → FunctionBuilder R → List Answer → Result Answer CallError → Type 0
 MakesConstant opcode ty bytes old new answers result =
-    Makes (λ naming declared ledger. pooled_const opcode ty bytes) false (ConstantMeetsFullTable bytes old.func.now) old.ctx.now.variables old new answers result
+    Makes (λ naming declared ledger. pooled_const opcode ty bytes) false (ConstantMeetsFullTable bytes old.func.now) old.ctx.now.parts.variables old new answers result
 
 -- for an exception table of this signature, normal edge and items
-abbrev pub MakesExceptions : Name → Name → List TableItem → FunctionBuilder → FunctionBuilder → List Answer → Result Answer CallError → Type 0
+abbrev pub MakesExceptions : {R : Type 0} → Name → Name → List TableItem → FunctionBuilder R → FunctionBuilder R → List Answer → Result Answer CallError → Type 0
 MakesExceptions signature normal items old new answers result =
     Makes (λ naming declared ledger. MakeExceptionTable (numbers_in naming ledger Signatures signature) (naming normal) (map (item_of naming) items)) false (length old.func.now.tables.exception_tables ≡ 2 ^ 32 - 1)
-    old.ctx.now.variables old new answers result
+    old.ctx.now.parts.variables old new answers result
 
 -- for a jump table of the edges with these names
-abbrev pub MakesTable : Name → List Name → FunctionBuilder → FunctionBuilder → List Answer → Result Answer CallError → Type 0
+abbrev pub MakesTable : {R : Type 0} → Name → List Name → FunctionBuilder R → FunctionBuilder R → List Answer → Result Answer CallError → Type 0
 MakesTable default entries old new answers result =
     Makes (λ naming declared ledger. MakeJumpTable (naming default) (map naming entries)) false (length old.func.now.tables.jump_tables ≡ 2 ^ 32 - 1)
-    old.ctx.now.variables old new answers result
+    old.ctx.now.parts.variables old new answers result
 
 -- an entry was put at the end of its table, or wasn't
-abbrev pub AppendsEntry : TableEntry → FunctionBuilder → FunctionBuilder → Result Entry BuildError → Type 0
+abbrev pub AppendsEntry : {R : Type 0} → TableEntry → FunctionBuilder R → FunctionBuilder R → Result Entry BuildError → Type 0
 AppendsEntry entry old new result = (made : Result ℕ BuildError) × (result ≡ entry_made entry made) × MakesEntry entry old new made
 
 -- the value that a name leads to has one label more in the function
-abbrev pub LabelsValue : FunctionBuilder → FunctionBuilder → List Answer → Name → ℕ → Type 0
+abbrev pub LabelsValue : {R : Type 0} → FunctionBuilder R → FunctionBuilder R → List Answer → Name → ℕ → Type 0
 LabelsValue old new answers name label =
     (value : ℕ) × (value_of old.func.now answers name ≡ Some value) × (new.func.now ≡ with_tables old.func.now (labelled old value label))

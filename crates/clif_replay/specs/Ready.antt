@@ -86,7 +86,7 @@ pub record IsAnswered (naming : Naming) (calls : List AnsweredCall) (place : ℕ
 
 -- The builder stands for these calls, on a function of this signature, and by this naming these are answers of theirs; and it
 -- is known how a ledger is read.
-pub record IsReady (naming : Naming) (declared : SignatureShape) (calls : List AnsweredCall) (b : FunctionBuilder) (answers : List Answer) : Type 0 where
+pub record IsReady {R : Type 0} (naming : Naming) (declared : SignatureShape) (calls : List AnsweredCall) (b : FunctionBuilder R) (answers : List Answer) : Type 0 where
   pub reads : LedgerIsReadByNumber
   pub stands : StandsFor declared calls b
   pub answered : (place : ℕ) (answer : Answer) → slice_get answers place ≡ Some answer → IsAnswered naming calls place answer
@@ -99,12 +99,12 @@ pub record IsReady (naming : Naming) (declared : SignatureShape) (calls : List A
   pub exceptions : TablesAgree (NamesExceptions calls) (ledger_of calls).exception_tables b.func.now.tables.exception_tables
 
 -- the function's jump tables and exception tables are as before
-abbrev pub KeepsTables : FunctionBuilder → FunctionBuilder → Type 0
+abbrev pub KeepsTables : {R : Type 0} → FunctionBuilder R → FunctionBuilder R → Type 0
 KeepsTables old new =
     (new.func.now.tables.jump_tables ≡ old.func.now.tables.jump_tables) × (new.func.now.tables.exception_tables ≡ old.func.now.tables.exception_tables)
 
 -- it stands for some calls, and hasn't failed
-pub record IsSound (b : FunctionBuilder) (answers : List Answer) : Type 0 where
+pub record IsSound {R : Type 0} (b : FunctionBuilder R) (answers : List Answer) : Type 0 where
   pub naming : Naming
   pub declared : SignatureShape
   pub calls : List AnsweredCall
@@ -112,7 +112,7 @@ pub record IsSound (b : FunctionBuilder) (answers : List Answer) : Type 0 where
   pub sound : b.failed ≡ false
 
 -- it stands for one more call, which was this request and gave this answer
-abbrev pub IsReadyAfter : Naming → SignatureShape → List AnsweredCall → Request → FunctionBuilder → List Answer → Answer → Type 0
+abbrev pub IsReadyAfter : {R : Type 0} → Naming → SignatureShape → List AnsweredCall → Request → FunctionBuilder R → List Answer → Answer → Type 0
 IsReadyAfter naming declared calls request b answers answer =
     (numbers : List ℕ) × IsReady naming declared (calls ++ record { request = request; numbers = numbers } ∷ []) b (answers ++ answer ∷ [])
 
@@ -133,20 +133,20 @@ IsCallJudged allowed blamed refused (Err error.Memory) = Unit {0}
 IsCallJudged allowed blamed refused (Err error.Full) = allowed ≡ true
 
 -- a block may be made current
-abbrev pub can_switch : FunctionBuilder → ℕ → Bool
-can_switch b block = not (is_filled_status (status_of b.ctx.now block)) && is_free b
+abbrev pub can_switch : {R : Type 0} → FunctionBuilder R → ℕ → Bool
+can_switch b block = not (is_filled_status (status_of b.ctx.now.parts block)) && is_free b
 
 -- a branch may lead to one block in place of another one: it leads to that one, and both are unsealed
-abbrev pub can_change : FunctionBuilder → (inst from to : ℕ) → Bool
-can_change b inst from to = stands_in inst (predecessors_of b.ctx.now.ssa from) && can_seal b from && can_seal b to
+abbrev pub can_change : {R : Type 0} → FunctionBuilder R → (inst from to : ℕ) → Bool
+can_change b inst from to = stands_in inst (predecessors_of b.ctx.now.parts.ssa from) && can_seal b from && can_seal b to
 
 -- a block may get a parameter of the caller's: nothing was made in it
-abbrev pub can_append : FunctionBuilder → ℕ → Bool
-can_append b block = is_empty_status (status_of b.ctx.now block)
+abbrev pub can_append : {R : Type 0} → FunctionBuilder R → ℕ → Bool
+can_append b block = is_empty_status (status_of b.ctx.now.parts block)
 
 -- it may get the function's parameters: no branch leads to it, either
-abbrev pub can_append_function_params : FunctionBuilder → ℕ → Bool
-can_append_function_params b block = can_append b block && is_nothing (predecessors_of b.ctx.now.ssa block)
+abbrev pub can_append_function_params : {R : Type 0} → FunctionBuilder R → ℕ → Bool
+can_append_function_params b block = can_append b block && is_nothing (predecessors_of b.ctx.now.parts.ssa block)
 
 -- so many values whose numbers follow one another, if there is a first one
 abbrev pub values_from : Option ℕ → ℕ → Answer
@@ -158,15 +158,15 @@ abbrev pub last_params : List ℕ → ℕ → Answer
 last_params params count = values_from (slice_get params (length params - count)) count
 
 -- a block may be put behind another one: it isn't in the layout, and the other one is
-abbrev pub can_insert : FunctionBuilder → ℕ → ℕ → Bool
+abbrev pub can_insert : {R : Type 0} → FunctionBuilder R → ℕ → ℕ → Bool
 can_insert b block after = not (stands_in block b.func.now.layout) && stands_in after b.func.now.layout
 
 -- a value may be assigned to a variable of this type
-abbrev pub can_define : FunctionBuilder → «Type» → ℕ → Bool
+abbrev pub can_define : {R : Type 0} → FunctionBuilder R → «Type» → ℕ → Bool
 can_define b ty value = is_open b && same_type ty (value_at b.func.now value).ty
 
 -- a variable of these may be used
-abbrev pub can_use : FunctionBuilder → List «Type» → ℕ → Bool
+abbrev pub can_use : {R : Type 0} → FunctionBuilder R → List «Type» → ℕ → Bool
 can_use b types variable = is_open b && is_some (slice_get types variable)
 
 -- stack maps may be asked for a variable: its type fits, and it was neither used nor assigned so far
@@ -174,11 +174,11 @@ abbrev pub fits_declared : Option «Type» → Bool
 fits_declared None = false
 fits_declared (Some ty) = fits_stack_map ty
 
-abbrev pub can_mark : FunctionBuilder → ℕ → Bool
-can_mark b variable = fits_declared (slice_get b.ctx.now.variables variable) && is_untouched b.ctx.now variable
+abbrev pub can_mark : {R : Type 0} → FunctionBuilder R → ℕ → Bool
+can_mark b variable = fits_declared (slice_get b.ctx.now.parts.variables variable) && is_untouched b.ctx.now.parts variable
 
 -- and for a value: its type fits
-abbrev pub can_record : FunctionBuilder → ℕ → Bool
+abbrev pub can_record : {R : Type 0} → FunctionBuilder R → ℕ → Bool
 can_record b value = fits_stack_map (value_at b.func.now value).ty
 
 -- the types of the variables after a call that succeeded

@@ -1,5 +1,5 @@
 -- What a replay answers, of the calls, the name, the signature and the target. Own.
-use Rattle.std.specs.Prelude.{◌≡◌, ◌≢◌, ◌<◌, ◌⊎◌, ℕ, List, length, Result, Err}
+use Rattle.std.specs.Prelude.{◌≡◌, ◌≢◌, ◌<◌, ◌⊎◌, ℕ, List, length, Option, Result, Err}
 use Rattle.clif_types.specs.Signature.{SignatureShape}
 use Rattle.clif_types.specs.declared.extname.UserFuncName.{UserFuncName}
 use Rattle.clif_types.specs.declared.target.TargetFrontendConfig.{TargetFrontendConfig}
@@ -10,15 +10,16 @@ use Rattle.clif_meaning.specs.Acceptance.{Accepted}
 use Rattle.clif_calls.specs.declared.call.Call.{Call}
 use Rattle.clif_expansion.specs.CallsHeadline.{CallersEdgesMatchInCalls, CallsMeanTheSame}
 use Rattle.clif_expansion.specs.CallsVerdict.{verdict_on_call_attempts}
+use Rattle.clif_regions.specs.Asking.{Asks}
 use Rattle.clif_replay.specs.declared.script.ReplayError.{ReplayError}
 use Rattle.clif_replay.specs.declared.script.ReplayError.TheVariants as replay
 use Rattle.clif_replay.specs.Requests.{attempts_of, calls_of}
-use Rattle.clif_replay.specs.Replayed.{IsBuiltBy, IsStoppedByTable, IsStoppedInSpilling, MayBeRefused, TellsVerdict}
+use Rattle.clif_replay.specs.Replayed.{IsBuiltAsking, IsStoppedByTable, IsStoppedInSpilling, MayBeRefused, TellsVerdict}
 
 -- the function that the calls make
-pub record ReplayMakes (calls : List Call) (name : UserFuncName) (declared : SignatureShape) (config : TargetFrontendConfig) (f : Body) : Type 0 where
+pub record ReplayMakes {C : Type 0} (calls : List Call) (name : UserFuncName) (declared : SignatureShape) (config : TargetFrontendConfig) (callback : Option C) (asks_of : C → Asks) (f : Body) : Type 0 where
   pub same_meaning : CallsMeanTheSame (calls_of config declared calls) declared config.pointer_width (view_of f)
-  pub built : IsBuiltBy config calls declared f
+  pub built : IsBuiltAsking config calls declared callback asks_of f
   pub edges_match : CallersEdgesMatchInCalls (calls_of config declared calls) → EdgesMatch (view_of f)
   pub named : f.name ≡ name
   pub accepted : verdict_on_call_attempts (attempts_of config declared calls) ≡ Accepted

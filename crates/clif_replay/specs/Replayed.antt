@@ -22,6 +22,8 @@ use Rattle.clif_ssa.specs.Ssa.{SsaState}
 use Rattle.clif_simulation.specs.Tracks.{HasRequest}
 use Rattle.clif_safepoints.specs.Contexts.{IsFirstTracked}
 use Rattle.clif_builder.specs.Context.{ContextState}
+use Rattle.clif_tables.specs.Lists.{no_entries}
+use Rattle.clif_regions.specs.Asking.{Asks, CarriesAnswersOf}
 use Rattle.clif_builder.specs.Ending.{BecomesSpilled}
 use Rattle.clif_builder.specs.Recorded.{RecordsExactly}
 use Rattle.clif_builder.specs.StandsFor.{LeavesNoParameter, StandsIn}
@@ -120,6 +122,15 @@ pub record IsBuiltBy (config : TargetFrontendConfig) (calls : List Call) (declar
   -- no try call that is reached has a recorded value as its context
   pub contexts : IsFirstTracked found.function (recorded_in found) None
   pub spilled : BecomesSpilled found.function (recorded_in found) (pointer_type_of config.pointer_width) f
+
+-- What is built, where a callback may be asked for the alias regions of the accesses that came to the function: these name what it
+-- answered, and nothing else has changed. Instructions that came to the function as it was found have the numbers behind its own.
+pub record IsBuiltAsking {C : Type 0} (config : TargetFrontendConfig) (calls : List Call) (declared : SignatureShape) (callback : Option C) (asks_of : C → Asks) (f : Body) : Type 0 where
+  pub between : Body
+  pub built : IsBuiltBy config calls declared between
+  -- the chain of sets begins at the empty one
+  pub begins : between.tables.alias_regions ≡ no_entries.alias_regions
+  pub regions : CarriesAnswersOf callback asks_of (length built.found.function.insts) between f
 
 -- A recorded value as a context ends a list of calls that are accepted: in the function that they build a try call that is reached
 -- has one.

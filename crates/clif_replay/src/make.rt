@@ -40,7 +40,7 @@ pub(crate) fn make_call(
     call: &Call,
 ) -> Result<Answer, CallError>
     requires sound { IsSound builder.old answers.now }
-    requires types { types.now ≡ builder.old.ctx.now.variables }
+    requires types { types.now ≡ builder.old.ctx.now.parts.variables }
     ensures { MakesScriptCall config call.now builder.old builder.new answers.now result }
 {
     match call {
@@ -215,7 +215,7 @@ fn def_var(
     name: Name,
 ) -> Result<Answer, CallError>
     requires sound { IsSound builder.old answers.now }
-    requires types { types.now ≡ builder.old.ctx.now.variables }
+    requires types { types.now ≡ builder.old.ctx.now.parts.variables }
     ensures { MakesCall (Call.DefVar variable name) builder.old builder.new answers.now result }
 {
     let Some(value) = value_named(builder.func(), answers, name) else {
@@ -239,7 +239,7 @@ fn use_var(
     variable: Variable,
 ) -> Result<Answer, CallError>
     requires sound { IsSound builder.old answers.now }
-    requires types { types.now ≡ builder.old.ctx.now.variables }
+    requires types { types.now ≡ builder.old.ctx.now.parts.variables }
     ensures { MakesCall (Call.UseVar variable) builder.old builder.new answers.now result }
 {
     if !may_use(builder, types, variable) {

@@ -42,7 +42,7 @@ pub(crate) fn change_jump_destination(
 
 // Whether a branch leads to a block.
 fn leads_to(builder: &FunctionBuilder<'_>, inst: Inst, block: Block) -> bool
-    ensures { result ≡ stands_in inst (predecessors_of builder.now.ctx.now.ssa block) }
+    ensures { result ≡ stands_in inst (predecessors_of builder.now.ctx.now.parts.ssa block) }
 {
     builder.leads_to(inst, block)
 }

@@ -12,6 +12,7 @@ use crate::make::one_value;
 use clif_builder::{ConstantOperands, FunctionBuilder};
 use clif_calls::{ImmediateCall, Name};
 use clif_constant_calls::laws::constant_operands_stand;
+use clif_regions::Callback;
 use clif_resolution::{Answer, CallError, Condition, current_fault, has_current, value_named};
 use clif_types::{BuildError, Value};
 
@@ -24,7 +25,7 @@ pub(crate) fn make_immediate(
     requires { IsSound builder.old answers.now }
     ensures { MakesEmission call builder.old builder.new answers.now result }
 {
-    constant_operands_stand();
+    constant_operands_stand::<Callback>();
     let name = operand_in(call);
     let Some(x) = value_named(builder.func(), answers, name) else {
         return Err(CallError::Misuse(Condition::NoValue(name)));

@@ -99,7 +99,7 @@ fn append_fault(builder: &FunctionBuilder<'_>, block: Block) -> Condition {
 
 // Whether no branch leads to a block.
 fn is_alone(builder: &FunctionBuilder<'_>, block: Block) -> bool
-    ensures { result ≡ is_nothing (predecessors_of builder.now.ctx.now.ssa block) }
+    ensures { result ≡ is_nothing (predecessors_of builder.now.ctx.now.parts.ssa block) }
 {
     !builder.has_any_predecessors(block)
 }

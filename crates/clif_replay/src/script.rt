@@ -1,5 +1,5 @@
 //! Scripts are replayed: each call is made on a builder, in order, if its condition holds.
-ghost use Rattle.std.specs.Prelude.{◌≡◌, ◌≢◌, ◌⊎◌, ℕ, ◌<◌, List, [], length, Some, false, OnOk, IfOk, IfErr, Err};
+ghost use Rattle.std.specs.Prelude.{◌≡◌, ◌≢◌, ◌⊎◌, ℕ, ◌<◌, List, [], length, Some, None, option_map, IfSome, false, OnOk, IfOk, IfErr, Err};
 ghost use Rattle.clif_meaning.specs.Request.{AnsweredCall};
 ghost use Rattle.clif_meaning.specs.Acceptance as acceptance;
 ghost use Rattle.clif_builder.specs.StandsFor.{StandsFor};
@@ -9,10 +9,11 @@ ghost use Rattle.clif_expansion.specs.CallsVerdict.{verdict_on_call_attempts};
 ghost use Rattle.clif_meaning.specs.Typing.{EdgesMatch};
 ghost use Rattle.clif_replay.specs.Replay.{ReplayMakes, ReplayTells};
 ghost use Rattle.clif_replay.specs.Requests.{attempts_of, calls_of};
-ghost use Rattle.clif_replay.specs.Replayed.{IsBuiltBy, IsReplayed, IsStoppedByTable, IsStoppedInSpilling, MayBeRefused, TellsVerdict};
+ghost use Rattle.clif_replay.specs.Replayed.{IsBuiltAsking, IsReplayed, IsStoppedByTable, IsStoppedInSpilling, MayBeRefused, TellsVerdict};
 ghost use Rattle.clif_ir.specs.Body.{empty_body};
-ghost use Rattle.clif_builder.specs.Builder.{SameLoans};
-ghost use Rattle.clif_builder.specs.Context.{empty_context};
+ghost use Rattle.clif_builder.specs.Builder.{KeepsAllButRegion, SameLoans};
+ghost use Rattle.clif_builder.specs.Clear.{IsClear};
+ghost use Rattle.clif_types.specs.Signature.{SignatureShape};
 ghost use Rattle.clif_replay.specs.Errors.{end_error_at, replay_error_at, replay_memory, replay_error_text};
 
 use crate::make::make_call;
@@ -20,6 +21,7 @@ use clif_builder::laws::ledger_is_read_by_number;
 use clif_builder::{FinalizeError, FunctionBuilder, FunctionBuilderContext};
 use clif_calls::Call;
 use clif_ir::Function;
+use clif_regions::RegionOf;
 use clif_resolution::{Answer, CallError, Condition};
 use clif_types::{EntityRef, Signature, TargetFrontendConfig, UserFuncName};
 use std::alloc::{AllocFailed, Global};
@@ -134,7 +136,9 @@ impl ReplayNotes {
 /// the function by `finalize(config)`.
 ///
 /// Each call is made only if its conditions hold, which are tested here, so every list of calls may be
-/// passed. `ctx` is empty, and is empty afterwards in every case, so it serves the next script.
+/// passed. `ctx` is empty, and is empty afterwards in every case, so it serves the next script. `region`, which may be called
+/// with every argument, is asked for the alias regions of the accesses that `finalize` inserts
+/// ([`FunctionBuilder::make_stack_map_alias_region`]).
 ///
 /// # Errors
 ///
@@ -146,17 +150,20 @@ pub fn replay(
     signature: Signature,
     ctx: &mut FunctionBuilderContext,
     config: TargetFrontendConfig,
+    region: Option<RegionOf>,
 ) -> Result<Function, ReplayError>
-    requires { ctx.old ≡ empty_context }
+    requires empty { IsClear ctx.old }
+    requires callable { IfSome region RegionOf.IsAlwaysCallable }
     ensures same_meaning { IfOk result (λ function.
         CallsMeanTheSame (calls_of config signature calls.now) signature config.pointer_width
         (view_of function)) }
-    ensures built { IfOk result (λ function. IsBuiltBy config calls.now signature function) }
+    ensures built { IfOk result (λ function. IsBuiltAsking config calls.now signature
+        region (λ ask. RegionOf.post ask) function) }
     ensures edges_match { IfOk result (λ function.
         CallersEdgesMatchInCalls (calls_of config signature calls.now)
         → EdgesMatch (view_of function)) }
     ensures name { IfOk result (λ function. function.name ≡ name) }
-    ensures context { ctx.new ≡ empty_context }
+    ensures context { IsClear ctx.new }
     ensures misuse { (i : ℕ) → result ≡ Err (ReplayError.Misuse i) → i < length calls.now }
     ensures refused { (i : ℕ) → result ≡ Err (ReplayError.Refused i) → MayBeRefused calls.now i }
     ensures table_full { result ≡ Err ReplayError.Full
@@ -167,7 +174,9 @@ pub fn replay(
         → TellsVerdict config calls.now signature result }
 {
     let mut notes = ReplayNotes::new(alloc);
-    replay_noted(alloc, calls, name, signature, ctx, config, &mut notes)
+    replay_noted(
+        alloc, calls, name, signature, ctx, config, region, &mut notes,
+    )
 }
 
 /// The same, with notes of the condition of a call that was misused or refused, and of what there was after each call.
@@ -182,18 +191,21 @@ pub fn replay_noted(
     signature: Signature,
     ctx: &mut FunctionBuilderContext,
     config: TargetFrontendConfig,
+    region: Option<RegionOf>,
     notes: &mut ReplayNotes,
 ) -> Result<Function, ReplayError>
-    requires { ctx.old ≡ empty_context }
+    requires empty { IsClear ctx.old }
+    requires callable { IfSome region RegionOf.IsAlwaysCallable }
     ensures same_meaning { IfOk result (λ function.
         CallsMeanTheSame (calls_of config signature calls.now) signature config.pointer_width
         (view_of function)) }
-    ensures built { IfOk result (λ function. IsBuiltBy config calls.now signature function) }
+    ensures built { IfOk result (λ function. IsBuiltAsking config calls.now signature
+        region (λ ask. RegionOf.post ask) function) }
     ensures edges_match { IfOk result (λ function.
         CallersEdgesMatchInCalls (calls_of config signature calls.now)
         → EdgesMatch (view_of function)) }
     ensures name { IfOk result (λ function. function.name ≡ name) }
-    ensures context { ctx.new ≡ empty_context }
+    ensures context { IsClear ctx.new }
     ensures misuse { (i : ℕ) → result ≡ Err (ReplayError.Misuse i) → i < length calls.now }
     ensures refused { (i : ℕ) → result ≡ Err (ReplayError.Refused i) → MayBeRefused calls.now i }
     ensures table_full { result ≡ Err ReplayError.Full
@@ -204,7 +216,7 @@ pub fn replay_noted(
         → TellsVerdict config calls.now signature result }
 {
     let mut func = Function::with_name_signature(alloc, name, signature);
-    build(alloc, calls, &mut func, ctx, config, notes)?;
+    build(alloc, calls, &mut func, ctx, config, region, notes)?;
     Ok(func)
 }
 
@@ -222,6 +234,20 @@ fn ended_at(error: FinalizeError, place: usize) -> ReplayError
     }
 }
 
+// Has the builder ask the callback, if there is one.
+fn register(builder: &mut FunctionBuilder<'_>, region: Option<RegionOf>)
+    requires none { builder.old.ctx.now.region ≡ None }
+    requires callable { IfSome region RegionOf.IsAlwaysCallable }
+    ensures asks { option_map (λ c. c.ask) builder.new.ctx.now.region ≡ region }
+    ensures keeps { KeepsAllButRegion builder.old builder.new }
+    ensures stands { (signature : SignatureShape) (calls : List AnsweredCall)
+        → StandsFor signature calls builder.old → StandsFor signature calls builder.new }
+{
+    if let Some(ask) = region {
+        builder.make_stack_map_alias_region(ask);
+    }
+}
+
 // Makes the calls, in order, on a builder of a function that is empty, and finishes it.
 fn build(
     alloc: Global,
@@ -229,16 +255,20 @@ fn build(
     func: &mut Function,
     ctx: &mut FunctionBuilderContext,
     config: TargetFrontendConfig,
+    region: Option<RegionOf>,
     notes: &mut ReplayNotes,
 ) -> Result<(), ReplayError>
     requires fresh { func.old ≡ empty_body func.old.name func.old.signature }
-    requires empty { ctx.old ≡ empty_context }
-    ensures finished { OnOk result (ReplayMakes calls.now func.old.name func.old.signature config func.new) }
+    requires empty { IsClear ctx.old }
+    requires callable { IfSome region RegionOf.IsAlwaysCallable }
+    ensures finished { OnOk result (ReplayMakes calls.now func.old.name func.old.signature config
+        region (λ ask. RegionOf.post ask) func.new) }
     ensures told { IfErr result (λ error.
         ReplayTells calls.now func.old.name func.old.signature config (Err error)) }
-    ensures context { ctx.new ≡ empty_context }
+    ensures context { IsClear ctx.new }
 {
     let mut builder = FunctionBuilder::new(func, ctx);
+    register(&mut builder, region);
     let made = make_calls(alloc, &mut builder, calls, config, notes);
     let finished = builder.finalize(config);
     made?;
@@ -260,7 +290,7 @@ fn make_calls(
     notes: &mut ReplayNotes,
 ) -> Result<(), ReplayError>
     requires ready { StandsFor builder.old.func.now.signature [] builder.old }
-    requires types { builder.old.ctx.now.variables ≡ [] }
+    requires types { builder.old.ctx.now.parts.variables ≡ [] }
     requires tables { builder.old.func.now.tables.jump_tables ≡ [] }
     requires exceptions { builder.old.func.now.tables.exception_tables ≡ [] }
     requires sound { builder.old.failed ≡ false }

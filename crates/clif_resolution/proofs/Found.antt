@@ -53,7 +53,7 @@ passed-values f answers (name ∷ names) (a ∷ args) found =
     (value.0 ∷ others.0, cc, cc)
 
 -- an edge that was found may be made
-pub found-leads : (b : FunctionBuilder) (answers : List Answer) (edge : Edge) (call : BlockCall) → IsFound b answers edge call → may_lead b answers edge ≡ true
+pub found-leads : {R : Type 0} (b : FunctionBuilder R) (answers : List Answer) (edge : Edge) (call : BlockCall) → IsFound b answers edge call → may_lead b answers edge ≡ true
 found-leads b answers edge call found =
     let passed = passed-values b.func.now answers edge.args.items call.args found.passed in
     and_from (is_target b (block_of answers edge.block)) (all_values b.func.now answers edge.args.items)
@@ -68,7 +68,7 @@ passed-found f answers (one ∷ args) (a ∷ made) found =
     let rest : map (passed_in f answers) args ≡ map Some made = cc in
     and_from (is_some (passed_in f answers one)) (all_passed f answers args) (ap is_some here) (passed-found f answers args made rest)
 
-pub edge-there : (b : FunctionBuilder) (answers : List Answer) (edge : TableEdge) (call : BlockCall) → IsEdge b answers edge call → has_edge b answers edge ≡ true
+pub edge-there : {R : Type 0} (b : FunctionBuilder R) (answers : List Answer) (edge : TableEdge) (call : BlockCall) → IsEdge b answers edge call → has_edge b answers edge ≡ true
 edge-there b answers edge call is =
     and_from (is_some (block_of answers edge.block)) (all_passed b.func.now answers edge.args.items) (ap is_some is.target)
     (passed-found b.func.now answers edge.args.items call.args is.passed)

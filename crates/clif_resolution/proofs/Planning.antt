@@ -91,42 +91,42 @@ entries-tested tables entries false tells =
     false_from_ne_true _ (λ there. let no_way : false ≡ true = tells.1 (all-entries-exist tables entries there) in absurd (false≢true no_way))
 
 -- a test of what the shape names is one of what the plan names
-pub entries-same : (b : FunctionBuilder) (answers : List Answer) (p : Plan) (s : InstructionData) (ty : «Type») (test : Bool) → IsPlanned b answers p s ty
+pub entries-same : {R : Type 0} (b : FunctionBuilder R) (answers : List Answer) (p : Plan) (s : InstructionData) (ty : «Type») (test : Bool) → IsPlanned b answers p s ty
     → IsTrue test ↔ All (EntryExists b.func.now.tables) (entries_of s) → has_entries b.func.now answers p ≡ test
 entries-same b answers p s ty test planned tells =
     ap (list_all (has_entry b.func.now.tables)) (entries-alike b.func.now.tables (numbers_at b.func.now answers) p s planned.operation) ∙ entries-tested b.func.now.tables (entries_of s) test tells
 
 -- the first of the values that names lead to exists, and so does the second
-pub first-exists : (b : FunctionBuilder) (answers : List Answer) (names : List Name) (x : ℕ) (xs : List ℕ) → ValuesExist b answers
+pub first-exists : {R : Type 0} (b : FunctionBuilder R) (answers : List Answer) (names : List Name) (x : ℕ) (xs : List ℕ) → ValuesExist b answers
     → map (value_of b.func.now answers) names ≡ map Some (x ∷ xs) → x < length b.func.now.values
 first-exists b answers [] x xs exist found = let no_way : ⊥ = cc in absurd no_way
 first-exists b answers (name ∷ names) x xs exist found = let here : value_of b.func.now answers name ≡ Some x = cc in exist name x here
 
-pub second-exists : (b : FunctionBuilder) (answers : List Answer) (names : List Name) (w x : ℕ) (xs : List ℕ) → ValuesExist b answers
+pub second-exists : {R : Type 0} (b : FunctionBuilder R) (answers : List Answer) (names : List Name) (w x : ℕ) (xs : List ℕ) → ValuesExist b answers
     → map (value_of b.func.now answers) names ≡ map Some (w ∷ x ∷ xs) → x < length b.func.now.values
 second-exists b answers [] w x xs exist found = let no_way : ⊥ = cc in absurd no_way
 second-exists b answers (name ∷ names) w x xs exist found =
     let rest : map (value_of b.func.now answers) names ≡ map Some (x ∷ xs) = cc in first-exists b answers names x xs exist rest
 
 -- what names lead to is there
-edges-there : (b : FunctionBuilder) (answers : List Answer) (edges : List Edge) (made : List BlockCall) → AreFound b answers edges made → list_all (may_lead b answers) edges ≡ true
+edges-there : {R : Type 0} (b : FunctionBuilder R) (answers : List Answer) (edges : List Edge) (made : List BlockCall) → AreFound b answers edges made → list_all (may_lead b answers) edges ≡ true
 edges-there b answers [] [] found = refl
 edges-there b answers [] (m ∷ made) found = absurd found
 edges-there b answers (edge ∷ edges) [] found = absurd found
 edges-there b answers (edge ∷ edges) (m ∷ made) found =
     and_from (may_lead b answers edge) (list_all (may_lead b answers) edges) (found-leads b answers edge m found.0) (edges-there b answers edges made found.1)
 
-pub planned-named : (b : FunctionBuilder) (answers : List Answer) (p : Plan) (s : InstructionData) (ty : «Type») → IsPlanned b answers p s ty → has_names b answers p ≡ true
+pub planned-named : {R : Type 0} (b : FunctionBuilder R) (answers : List Answer) (p : Plan) (s : InstructionData) (ty : «Type») → IsPlanned b answers p s ty → has_names b answers p ≡ true
 planned-named b answers p s ty planned =
     and_from (all_values b.func.now answers (operands_in p)) (list_all (may_lead b answers) (edges_in p))
     (all-found b.func.now answers (operands_in p) (operands s) planned.operands) (edges-there b answers (edges_in p) (destinations s) planned.edges)
 
-pub planned-returns : (b : FunctionBuilder) (answers : List Answer) (args : Bor (List Name)) (values : List ℕ) → map (value_of b.func.now answers) args.now ≡ map Some values
+pub planned-returns : {R : Type 0} (b : FunctionBuilder R) (answers : List Answer) (args : Bor (List Name)) (values : List ℕ) → map (value_of b.func.now answers) args.now ≡ map Some values
     → IsPlanned b answers (plan.MultiAry args) (shape.MultiAry values) Invalid
 planned-returns b answers args values found = record { operation = refl; controlling = refl; typed = refl; operands = found; edges = tt }
 
 -- the instruction was found
-pub planned-found : (b : FunctionBuilder) (answers : List Answer) (given p : Plan) (made : Planned) (s : InstructionData) (ty : «Type») → given ≡ p → made ≡ record { shape = s; ty = ty } → has_slot answers p ≡ true
+pub planned-found : {R : Type 0} (b : FunctionBuilder R) (answers : List Answer) (given p : Plan) (made : Planned) (s : InstructionData) (ty : «Type») → given ≡ p → made ≡ record { shape = s; ty = ty } → has_slot answers p ≡ true
     → IsPlanned b answers p s ty → Finds (λ (x : Planned). IsPlanned b answers given x.shape x.ty) (has_slot answers given && has_names b answers given) (Ok made)
 planned-found b answers given p made s ty is same slot planned =
     let here : IsPlanned b answers given made.shape made.ty =
@@ -152,7 +152,7 @@ no-slot f answers (plan.StackStore arg slot offset) missing = ap (λ (test : Boo
 no-slot f answers _ missing = let no_way : ⊥ = cc in absurd no_way
 
 -- where it leads to none, or another name to nothing that fits, the instruction may not be made
-pub names-denied : (b : FunctionBuilder) (answers : List Answer) (p : Plan) → (has_slot answers p && has_names b answers p) ≡ false → can_make b answers p ≡ false
+pub names-denied : {R : Type 0} (b : FunctionBuilder R) (answers : List Answer) (p : Plan) → (has_slot answers p && has_names b answers p) ≡ false → can_make b answers p ≡ false
 names-denied b answers p denied = by (has_slot answers p) refl denied
   where
     by : (slot : Bool) → has_slot answers p ≡ slot → (slot && has_names b answers p) ≡ false → can_make b answers p ≡ false

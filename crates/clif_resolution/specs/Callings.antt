@@ -40,7 +40,7 @@ has_called answers (outside.Call function args) = is_some (entry_of Functions an
 has_called answers (outside.CallIndirect signature callee args) = is_some (entry_of Signatures answers signature)
 
 -- it may be made: in an open block, where its names lead to values
-abbrev pub can_call : FunctionBuilder → List Answer → OutsideCall → Bool
+abbrev pub can_call : {R : Type 0} → FunctionBuilder R → List Answer → OutsideCall → Bool
 can_call b answers called = (is_open b && all_values b.func.now answers (operands_of called)) && is_imported b.func.now answers called
 
 -- the number of the function that is called along the edges of an exception table, where it isn't an address
@@ -69,13 +69,13 @@ abbrev pub table_in : Body → List Answer → ThrowingCall → ℕ
 table_in f answers called = numbers_at f answers ExceptionTables (table_of called)
 
 -- a call along the edges of an exception table may be made: in an open block, where its names lead to values and the table serves
-abbrev pub can_try : FunctionBuilder → List Answer → ThrowingCall → Bool
+abbrev pub can_try : {R : Type 0} → FunctionBuilder R → List Answer → ThrowingCall → Bool
 can_try b answers called =
     (is_open b && all_values b.func.now answers (tried_operands called))
     && (has_callee b.func.now answers called && tries b (table_in b.func.now answers called))
 
 -- what such a call names: the values, the function, if it is one, and the table
-pub record IsTried (b : FunctionBuilder) (answers : List Answer) (called : ThrowingCall) (tried : Tried) : Type 0 where
+pub record IsTried {R : Type 0} (b : FunctionBuilder R) (answers : List Answer) (called : ThrowingCall) (tried : Tried) : Type 0 where
   pub values : map (value_of b.func.now answers) (tried_operands called) ≡ map Some tried.args
   pub function : tried.function ≡ callee_in (numbers_at b.func.now answers) called
   pub table : tried.table ≡ table_in b.func.now answers called

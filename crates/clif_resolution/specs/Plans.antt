@@ -68,7 +68,7 @@ controlling_in typed (plan.Brif condition block_then block_else) = typed conditi
 controlling_in typed _ = Invalid
 
 -- each value to which a name leads exists
-abbrev pub ValuesExist : FunctionBuilder → List Answer → Type 0
+abbrev pub ValuesExist : {R : Type 0} → FunctionBuilder R → List Answer → Type 0
 ValuesExist b answers = (name : Name) (value : ℕ) → value_of b.func.now answers name ≡ Some value → value < length b.func.now.values
 
 -- the type of the value, if there is one
@@ -77,13 +77,13 @@ type_in f None = Invalid
 type_in f (Some value) = (value_at f value).ty
 
 -- the edges to which names lead
-abbrev pub AreFound : FunctionBuilder → List Answer → List Edge → List BlockCall → Type 0
+abbrev pub AreFound : {R : Type 0} → FunctionBuilder R → List Answer → List Edge → List BlockCall → Type 0
 AreFound b answers [] [] = Unit {0}
 AreFound b answers (edge ∷ edges) (call ∷ calls) = IsFound b answers edge call × AreFound b answers edges calls
 AreFound b answers _ _ = ⊥
 
 -- an instruction of the plan has this shape and is made at this type
-pub record IsPlanned (b : FunctionBuilder) (answers : List Answer) (plan : Plan) (shape : InstructionData) (ty : «Type») : Type 0 where
+pub record IsPlanned {R : Type 0} (b : FunctionBuilder R) (answers : List Answer) (plan : Plan) (shape : InstructionData) (ty : «Type») : Type 0 where
   pub operation : operation_in (numbers_at b.func.now answers) plan ≡ operation_of b.func.now.tables shape
   pub controlling : controlling_in (λ name. type_in b.func.now (value_of b.func.now answers name)) plan ≡ made_at b.func.now shape ty
   pub typed : result_types shape ty ≡ result_types shape (made_at b.func.now shape ty)
@@ -91,7 +91,7 @@ pub record IsPlanned (b : FunctionBuilder) (answers : List Answer) (plan : Plan)
   pub edges : AreFound b answers (edges_in plan) (destinations shape)
 
 -- its names lead to values, and its edges may be made
-abbrev pub has_names : FunctionBuilder → List Answer → Plan → Bool
+abbrev pub has_names : {R : Type 0} → FunctionBuilder R → List Answer → Plan → Bool
 has_names b answers plan = all_values b.func.now answers (operands_in plan) && list_all (may_lead b answers) (edges_in plan)
 
 -- the name of a stack slot leads to one
@@ -101,7 +101,7 @@ has_slot answers (plan.StackStore arg slot offset) = is_some (entry_of StackSlot
 has_slot answers _ = true
 
 -- the instruction of a plan is found, where what it names is there
-abbrev pub FindsPlan : FunctionBuilder → List Answer → Plan → Result Planned CallError → Type 0
+abbrev pub FindsPlan : {R : Type 0} → FunctionBuilder R → List Answer → Plan → Result Planned CallError → Type 0
 FindsPlan b answers plan result = Finds (λ (p : Planned). IsPlanned b answers plan p.shape p.ty) (has_slot answers plan && has_names b answers plan) result
 
 -- the entries of tables that it names were made
@@ -109,7 +109,7 @@ abbrev pub has_entries : Body → List Answer → Plan → Bool
 has_entries f answers plan = list_all (has_entry f.tables) (operation_entries (operation_in (numbers_at f answers) plan))
 
 -- it may be made
-abbrev pub can_make : FunctionBuilder → List Answer → Plan → Bool
+abbrev pub can_make : {R : Type 0} → FunctionBuilder R → List Answer → Plan → Bool
 can_make b answers plan =
     (is_open b && has_names b answers plan)
     && can_operate (operation_in (numbers_at b.func.now answers) plan) (controlling_in (λ name. type_in b.func.now (value_of b.func.now answers name)) plan)

@@ -169,7 +169,7 @@ fn spill(
 ) -> Result<EntitySet<Value>, Fail> {
     let set = set_of(rt, alloc, recorded)?;
     assert!(rt; all_fit(func, &set));
-    SafepointSpiller::new(alloc).run(func, &set, I64)?;
+    SafepointSpiller::new(alloc).run(func, &set, I64, &None)?;
     Ok(set)
 }
 

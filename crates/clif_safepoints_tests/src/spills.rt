@@ -221,7 +221,7 @@ pub fn spills_each(rt: &impl Abort, alloc: Global, cases: &[&Spill]) -> Result<(
             let mut func = function(rt, alloc, case)?;
             let recorded = set_of(rt, alloc, case.recorded)?;
             assert!(rt; all_fit(&func, &recorded));
-            spiller.run(&mut func, &recorded, I64)?;
+            spiller.run(&mut func, &recorded, I64, &None)?;
             let text = format!(in alloc; "{}", func.display())?;
             assert_eq!(rt; text.as_str(), case.text);
         }
@@ -265,7 +265,7 @@ pub fn spills_many(rt: &impl Abort, alloc: Global, count: u32) -> Result<(), Fai
     }
     let mut spiller = SafepointSpiller::new(alloc);
     assert!(rt; all_fit(&func, &recorded));
-    spiller.run(&mut func, &recorded, I64)?;
+    spiller.run(&mut func, &recorded, I64, &None)?;
     assert_eq!(rt; func.tables().stack_slot_count(), count as usize);
     assert!(rt; count < 1000);
     let call = Inst::from_u32(count);

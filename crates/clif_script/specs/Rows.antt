@@ -11,7 +11,7 @@ IsHelperRow name = (name ≡ codes "memcpy") ⊎ (name ≡ codes "copy12") ⊎ (
 
 -- a row that asks for stack maps has this name
 abbrev pub IsStackMapRow : List ℕ → Type 0
-IsStackMapRow name = (name ≡ codes "slot_reuse") ⊎ (name ≡ codes "loop") ⊎ (name ≡ codes "irreducible") ⊎ (name ≡ codes "try_call") ⊎ (name ≡ codes "zero_marked")
+IsStackMapRow name = (name ≡ codes "slot_reuse") ⊎ (name ≡ codes "loop") ⊎ (name ≡ codes "irreducible") ⊎ (name ≡ codes "try_call") ⊎ (name ≡ codes "zero_marked") ⊎ (name ≡ codes "regions")
 
 -- another row has it
 abbrev pub IsOtherRow : List ℕ → Type 0

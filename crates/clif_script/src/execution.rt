@@ -1,22 +1,24 @@
 //! Runs of a script and of the function that is built of it, side by side: `execute` is `clif_build --run` over two
 //! writers.
-ghost use Rattle.std.specs.Prelude.{◌<◌, IfOk};
+ghost use Rattle.std.specs.Prelude.{◌<◌, IfOk, IfSome};
 
 use crate::command::Run;
-use crate::program::{Notes, tell_call, tell_no_text, tell_refused, tell_unbuilt, tell_unread};
+use crate::program::{Notes, tell_call, tell_unbuilt};
+use crate::source::{Source, tell_unread};
 use clif_builder::FunctionBuilderContext;
+use clif_regions::RegionOf;
 use clif_replay::{ReplayError, ReplayNotes, replay_noted};
 use clif_resolution::Condition;
 use clif_runs::{
     ArgumentError, Comparison, Given, Numbering, Options, Report, Verdict, arguments_of, compare,
 };
-use clif_text::{ReadError, Script, read};
+use clif_text::{ReadError, Script};
 use clif_types::AbiParam;
 use clif_worlds::{Place, RunError, Told};
 use std::alloc::{AllocError, Global};
-use std::{io, str};
+use std::io;
 
-/// Builds the function of a script, for the bytes of a file, runs the script's variable program and the function with
+/// Builds the function of a script, as [`crate::build`] does, runs the script's variable program and the function with
 /// the same arguments and the same memory, and prints to `out` what each calls and how it ends, as `script: called %f(64)`,
 /// `script: returned 7` and `function: returned 7`; before them the blocks that both pass, if the run is traced (see
 /// [`Report`]). Answers the exit status.
@@ -30,7 +32,7 @@ use std::{io, str};
 /// |---|---|
 /// | 0 | both runs end with the same values or trap, and the same memory outside the stack slots that only the function has |
 /// | 1 | the function couldn't be built, and `err` has the reason, as [`crate::build`] tells it; or this can't be run: memory or a write was refused, a value has more than 128 bits, the stack slots don't fit into memory, or a call throws to an item that it doesn't have |
-/// | 2 | the bytes are no script, or the words aren't the function's arguments, and `err` has the reason |
+/// | 2 | of [`Source::read`]: the bytes are no script; or the words aren't the function's arguments, and `err` has the reason |
 /// | 3 | the runs differ, and `err` says so |
 /// | 4 | the theorem promises nothing of this run, and `err` has the reason, as `the promise doesn't cover this: $4.1 is used before it is given`, and then the line of the call |
 /// | 5 | a run hasn't ended within the bound on steps, and `err` says so |
@@ -40,68 +42,39 @@ use std::{io, str};
 /// written.
 pub fn execute<O: io::Write, E: io::Write>(
     alloc: Global,
-    bytes: &[u8],
+    source: &Source<'_>,
     run: &Run<'_>,
+    region: Option<RegionOf>,
     out: &mut O,
     err: &mut E,
 ) -> u8
+    requires callable { IfSome region RegionOf.IsAlwaysCallable }
     ensures { result < 6 }
 {
-    match execute_bytes(alloc, bytes, run, out, err) {
+    match execute_script(alloc, source, run, region, out, err) {
         Ok(status) => status,
         Err(_) => 1,
     }
 }
 
-fn execute_bytes<O: io::Write, E: io::Write>(
-    alloc: Global,
-    bytes: &[u8],
-    run: &Run<'_>,
-    out: &mut O,
-    err: &mut E,
-) -> io::Result<u8>
-    ensures { IfOk result (λ status. status < 6) }
-{
-    match str::from_utf8(bytes) {
-        Ok(text) => execute_text(alloc, text, run, out, err),
-        Err(error) => {
-            let place = error.valid_up_to();
-            tell_no_text(&bytes[..place], &bytes[place..], err)
-        }
-    }
-}
-
-fn execute_text<O: io::Write, E: io::Write>(
-    alloc: Global,
-    text: &str,
-    run: &Run<'_>,
-    out: &mut O,
-    err: &mut E,
-) -> io::Result<u8>
-    ensures { IfOk result (λ status. status < 6) }
-{
-    match read(alloc, text) {
-        Ok(script) => execute_script(alloc, text, &script, run, out, err),
-        Err(error) => tell_refused(alloc, text, error, err),
-    }
-}
-
 fn execute_script<O: io::Write, E: io::Write>(
     alloc: Global,
-    text: &str,
-    script: &Script,
+    source: &Source<'_>,
     run: &Run<'_>,
+    region: Option<RegionOf>,
     out: &mut O,
     err: &mut E,
 ) -> io::Result<u8>
+    requires callable { IfSome region RegionOf.IsAlwaysCallable }
     ensures { IfOk result (λ status. status < 6) }
 {
+    let Source { text, script } = source;
     let params = script.signature.params.as_slice();
     let arguments = match arguments_of(alloc, params, run.arguments) {
         Ok(arguments) => arguments,
         Err(error) => return tell_arguments(error, err),
     };
-    match both_run(alloc, script, arguments.as_slice(), run.options) {
+    match both_run(alloc, script, arguments.as_slice(), run.options, region) {
         Ok(both) => {
             let notes = Notes {
                 calls: script.calls.as_slice(),
@@ -158,14 +131,19 @@ fn both_run(
     script: &Script,
     arguments: &[u128],
     options: Options,
-) -> Result<Both, Unrun> {
+    region: Option<RegionOf>,
+) -> Result<Both, Unrun>
+    requires callable { IfSome region RegionOf.IsAlwaysCallable }
+{
     let mut ctx = FunctionBuilderContext::new(alloc);
     let name = script.name.clone()?;
     let signature = script.signature.clone()?;
     let calls = script.calls.as_slice();
     let config = script.config;
     let mut told = ReplayNotes::new(alloc);
-    let func = match replay_noted(alloc, calls, name, signature, &mut ctx, config, &mut told) {
+    let func = match replay_noted(
+        alloc, calls, name, signature, &mut ctx, config, region, &mut told,
+    ) {
         Ok(func) => func,
         Err(error) => return Err(Unrun::Unbuilt(error, told.condition)),
     };

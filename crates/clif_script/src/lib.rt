@@ -9,6 +9,7 @@ mod helper_rows;
 mod program;
 mod row_texts;
 mod rows;
+mod source;
 mod stack_map_rows;
 
 pub use clif_calls::{
@@ -16,6 +17,8 @@ pub use clif_calls::{
     Plan, SwitchEntry, TableEdge, TableItem, ThrowingCall,
 };
 pub use clif_graph::Graph;
+pub use clif_region_kinds::RegionKind;
+pub use clif_regions::RegionOf;
 pub use clif_replay::{ReplayError, ReplayNotes, replay, replay_noted};
 pub use clif_resolution::Condition;
 pub use clif_runs::Options;
@@ -24,3 +27,4 @@ pub use command::{Command, Run, USAGE};
 pub use execution::execute;
 pub use program::{Form, Printing, TypeCheck, build};
 pub use rows::{row_text, run};
+pub use source::{Source, tell_no_memory};

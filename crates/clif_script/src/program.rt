@@ -1,20 +1,22 @@
 //! A function from the text of a script: `build` is the program `clif_build` over two writers.
-ghost use Rattle.std.specs.Prelude.{◌≡◌, ◌<◌, IfOk, OnOk};
+ghost use Rattle.std.specs.Prelude.{◌≡◌, ◌<◌, IfOk, IfSome, OnOk};
 ghost use Rattle.clif_script.specs.Program.{HasTypesAs, IsAccepted, MakesFunction};
 
 use crate::constants::cut_constant;
+use crate::source::{Source, tell_unread};
 use clif_builder::FunctionBuilderContext;
 use clif_calls::{Call, Name};
 use clif_check::{CheckError, check};
 use clif_graph::Graph;
 use clif_ir::Function;
+use clif_regions::RegionOf;
 use clif_replay::{ReplayError, ReplayNotes, replay_noted};
 use clif_resolution::Condition;
-use clif_text::{Expected, Fault, Hint, ReadError, Script, explain, read};
+use clif_text::{Hint, ReadError, Script};
 use clif_type_messages::type_message;
 use clif_words::words::words_of;
 use std::alloc::{AllocError, Global};
-use std::{fmt, io, str};
+use std::{fmt, io};
 
 /// Whether the types of a function's instructions are checked before it is printed.
 #[derive(Clone, Copy, PartialEq, Eq)]
@@ -43,130 +45,35 @@ pub struct Printing {
     pub form: Form,
 }
 
-/// Builds the function of a script, for the bytes of a file, and prints it to `out` in this form. Answers the exit
-/// status.
+/// Builds the function of a script and prints it to `out` in this form. Answers the exit status. `region`, which may be called
+/// with every argument, is asked for the alias regions of the accesses that spills make; a program makes it as the script's
+/// [`Source::region`] says.
 ///
 /// | Status | When |
 /// |---|---|
 /// | 0 | the function was finished and printed to `out`, and to `err` a line for each constant that was cut, as `note: line 3: iconst.i8 4000 is cut to -96` |
 /// | 1 | the function couldn't be built, and `err` has the reason, as `misuse at call 3` and then `line 12: jump b1: block1 is sealed`, or `refused at call 4` and then `at the end: block0 isn't filled`; or its types are checked, and `err` has an instruction that isn't well typed, as `inst2: iadd: the second operand is i64, i32 is needed`; or memory or a write was refused |
-/// | 2 | the bytes are no script, and `err` has the reason, as `script error at line 12: expected a block`, and then where the line can't be read ([`Explanation`](clif_text::Explanation)) |
+/// | 2 | of [`Source::read`]: the bytes are no script, and `err` has the reason, as `script error at line 12: expected a block`, and then where the line can't be read ([`Explanation`](clif_text::Explanation)) |
 ///
 /// Nothing is printed to `out` unless the function was finished. Where a write fails, what was written before
 /// it stays written.
 pub fn build<O: io::Write, E: io::Write>(
     alloc: Global,
-    bytes: &[u8],
+    source: Source<'_>,
     printing: Printing,
+    region: Option<RegionOf>,
     out: &mut O,
     err: &mut E,
 ) -> u8
+    requires callable { IfSome region RegionOf.IsAlwaysCallable }
     ensures status { result < 3 }
-    ensures accepted { result ≡ 0 → IsAccepted printing.types bytes.now }
+    ensures accepted { result ≡ 0 → IsAccepted printing.types source.entry.text.now
+        region (λ ask. RegionOf.post ask) }
 {
-    match build_bytes(alloc, bytes, printing, out, err) {
+    let Source { text, script } = source;
+    match build_script(alloc, text, script, printing, region, out, err) {
         Ok(status) => status,
         Err(_) => 1,
-    }
-}
-
-fn build_bytes<O: io::Write, E: io::Write>(
-    alloc: Global,
-    bytes: &[u8],
-    printing: Printing,
-    out: &mut O,
-    err: &mut E,
-) -> io::Result<u8>
-    ensures status { IfOk result (λ status. status < 3) }
-    ensures accepted { IfOk result (λ status. status ≡ 0 → IsAccepted printing.types bytes.now) }
-{
-    match str::from_utf8(bytes) {
-        Ok(text) => build_text(alloc, text, printing, out, err),
-        Err(error) => {
-            let place = error.valid_up_to();
-            tell_no_text(&bytes[..place], &bytes[place..], err)
-        }
-    }
-}
-
-// Tells that a file, of these bytes and those after them, is no text from there on.
-pub(crate) fn tell_no_text<E: io::Write>(before: &[u8], after: &[u8], err: &mut E) -> io::Result<u8>
-    ensures { IfOk result (λ status. (0 < status) × (status < 3)) }
-{
-    let number = lines_to(before);
-    let fault = Fault::Expected(Expected::Text);
-    let status = tell_unread(ReadError::Line { number, fault }, err)?;
-    if let Some(byte) = after.first() {
-        let column = column_after(before);
-        let expected = Expected::Text;
-        writeln!(
-            err,
-            "column {column}: found the byte {byte:#04x}, expected {expected}"
-        )?;
-    }
-    Ok(status)
-}
-
-// The number of the line on which these bytes end.
-fn lines_to(bytes: &[u8]) -> usize {
-    bytes.iter().filter(|byte| **byte == b'\n').count() + 1
-}
-
-// The column after these bytes, which are a text: 1 more than the last line has characters.
-fn column_after(bytes: &[u8]) -> usize {
-    let mut column: usize = 1;
-    for byte in bytes {
-        if *byte == b'\n' {
-            column = 1;
-        } else if *byte & 0xc0 != 0x80 {
-            column = column.saturating_add(1);
-        }
-    }
-    column
-}
-
-// Tells why a text is no script.
-pub(crate) fn tell_unread<E: io::Write>(error: ReadError<'_>, err: &mut E) -> io::Result<u8>
-    ensures { IfOk result (λ status. (0 < status) × (status < 3)) }
-{
-    writeln!(err, "{error}")?;
-    match error {
-        ReadError::Memory => Ok(1),
-        ReadError::Line { .. } => Ok(2),
-    }
-}
-
-// Tells why a text is no script, and where.
-pub(crate) fn tell_refused<E: io::Write>(
-    alloc: Global,
-    text: &str,
-    error: ReadError<'_>,
-    err: &mut E,
-) -> io::Result<u8>
-    ensures { IfOk result (λ status. (0 < status) × (status < 3)) }
-{
-    let status = tell_unread(error, err)?;
-    if let ReadError::Line { .. } = error {
-        if let Some(explanation) = explain(alloc, text) {
-            write!(err, "{explanation}")?;
-        }
-    }
-    Ok(status)
-}
-
-pub(crate) fn build_text<O: io::Write, E: io::Write>(
-    alloc: Global,
-    text: &str,
-    printing: Printing,
-    out: &mut O,
-    err: &mut E,
-) -> io::Result<u8>
-    ensures status { IfOk result (λ status. status < 3) }
-    ensures accepted { IfOk result (λ status. status ≡ 0 → IsAccepted printing.types text.now) }
-{
-    match read(alloc, text) {
-        Ok(script) => build_script(alloc, text, script, printing, out, err),
-        Err(error) => tell_refused(alloc, text, error, err),
     }
 }
 
@@ -175,11 +82,14 @@ fn build_script<O: io::Write, E: io::Write>(
     text: &str,
     script: Script,
     printing: Printing,
+    region: Option<RegionOf>,
     out: &mut O,
     err: &mut E,
 ) -> io::Result<u8>
+    requires callable { IfSome region RegionOf.IsAlwaysCallable }
     ensures status { IfOk result (λ status. status < 3) }
-    ensures makes { IfOk result (λ status. status ≡ 0 → MakesFunction printing.types script) }
+    ensures makes { IfOk result (λ status. status ≡ 0 → MakesFunction printing.types script
+        region (λ ask. RegionOf.post ask)) }
 {
     let Script {
         name,
@@ -187,6 +97,7 @@ fn build_script<O: io::Write, E: io::Write>(
         config,
         answers: _,
         moves: _,
+        region: _,
         calls,
         lines,
     } = script;
@@ -203,6 +114,7 @@ fn build_script<O: io::Write, E: io::Write>(
         signature,
         &mut ctx,
         config,
+        region,
         &mut told,
     ) {
         Ok(func) => func,

@@ -3,12 +3,14 @@ ghost use Rattle.std.specs.Prelude.{◌≡◌, ◌<◌, ◌↔◌, length, strin
 ghost use Rattle.clif_script.specs.Rows.{IsHelperRow, IsOtherRow, IsRowName, IsStackMapRow, IsSwitchRow};
 
 use crate::helper_rows::{COPY12, COPY40, MEMCMP_ODD, MEMCPY};
-use crate::program::{Form, Printing, TypeCheck, build_text};
+use crate::program::{Form, Printing, TypeCheck, build};
 use crate::row_texts::{
     BOTH_ARMS, CHANGE_BOTH, CHANGE_ONE, EMPTY, FIRST, REORDERING, SAMPLE, SAMPLE_LATE,
     SWITCH_128BIT_MAX_U64, SWITCH_BORDER, SWITCH_HIGH, SWITCH_MANY, UNDEF_VECTORS,
 };
-use crate::stack_map_rows::{IRREDUCIBLE, LOOP, SLOT_REUSE, TRY_CALL, ZERO_MARKED};
+use crate::source::Source;
+use crate::stack_map_rows::{IRREDUCIBLE, LOOP, REGIONS, SLOT_REUSE, TRY_CALL, ZERO_MARKED};
+use clif_regions::RegionOf;
 use std::alloc::Global;
 use std::io;
 
@@ -19,7 +21,7 @@ const AS_TEXT: Printing = Printing {
 };
 
 // The names of the rows, in order.
-const NAMES: [&str; 22] = [
+const NAMES: [&str; 23] = [
     "first",
     "memcpy",
     "reordering",
@@ -42,6 +44,7 @@ const NAMES: [&str; 22] = [
     "change_both",
     "change_one",
     "empty",
+    "regions",
 ];
 
 /// The script of the row of this name, compared byte for byte.
@@ -90,6 +93,7 @@ fn stack_map_row_text(name: &str) -> Option<&'static str>
         "irreducible" => Some(IRREDUCIBLE),
         "try_call" => Some(TRY_CALL),
         "zero_marked" => Some(ZERO_MARKED),
+        "regions" => Some(REGIONS),
         _ => None,
     }
 }
@@ -114,7 +118,8 @@ fn other_row_text(name: &str) -> Option<&'static str>
 
 /// The program `rows NAME`: builds the function of the row that the argument names, for pointers of 64
 /// bits and the convention `system_v`, and prints it; its types aren't checked. Without an argument it prints
-/// the names of the rows, one a line. Answers the exit status.
+/// the names of the rows, one a line. Answers the exit status. `region`, which may be called with every argument, is asked for
+/// the alias regions of the accesses that spills make, where the row's script has a line `region`: by the row `regions`.
 ///
 /// | Status | When |
 /// |---|---|
@@ -126,9 +131,11 @@ fn other_row_text(name: &str) -> Option<&'static str>
 pub fn run<O: io::Write, E: io::Write>(
     alloc: Global,
     args: &[String],
+    region: RegionOf,
     out: &mut O,
     err: &mut E,
 ) -> u8
+    requires callable { RegionOf.IsAlwaysCallable region }
     ensures status { result < 3 }
     ensures names { length args.now ≡ 0 → result < 2 }
     ensures known { length args.now ≡ 1 → IfSome (slice_get args.now 0) (λ name. IsRowName (string_bytes name) → result < 2) }
@@ -137,7 +144,7 @@ pub fn run<O: io::Write, E: io::Write>(
 {
     let printed = match args {
         [] => print_names(out),
-        [name] => print_row(alloc, name.as_str(), out, err),
+        [name] => print_row(alloc, name.as_str(), region, out, err),
         _ => told(err, 2, "usage: rows [NAME]"),
     };
     match printed {
@@ -167,9 +174,11 @@ fn print_names<O: io::Write>(out: &mut O) -> io::Result<u8>
 fn print_row<O: io::Write, E: io::Write>(
     alloc: Global,
     name: &str,
+    region: RegionOf,
     out: &mut O,
     err: &mut E,
 ) -> io::Result<u8>
+    requires callable { RegionOf.IsAlwaysCallable region }
     ensures known { IsRowName name.now → IfOk result (λ status. status < 2) }
     ensures unknown { IfOk result (λ status. status ≡ 0 → IsRowName name.now) }
     ensures status { IfOk result (λ status. status < 3) }
@@ -178,7 +187,14 @@ fn print_row<O: io::Write, E: io::Write>(
         writeln!(err, "unknown row: {name}")?;
         return Ok(2);
     };
-    match build_text(alloc, text, AS_TEXT, out, err)? {
+    let Ok(source) = Source::of_text(alloc, text, err) else {
+        return Ok(1);
+    };
+    let region = match source.region() {
+        Some(_) => Some(region),
+        None => None,
+    };
+    match build(alloc, source, AS_TEXT, region, out, err) {
         0 => Ok(0),
         _ => Ok(1),
     }

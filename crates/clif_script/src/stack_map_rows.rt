@@ -135,3 +135,24 @@ call g
 after = use_var p
 return after
 ";
+
+/// The same as `SLOT_REUSE`, with a callback that answers one region.
+pub(crate) const REGIONS: &str = "\
+# Each access of a spill names the region of user id 7.
+function %sample () system_v
+region intern 7
+takes = import_signature (i32) system_v
+g = import_function %g takes
+block0 = create_block
+seal_block block0
+switch_to_block block0
+zero = iconst.i32 0
+declare_value_needs_stack_map zero
+call g (zero)
+call g (zero)
+one = iconst.i32 1
+declare_value_needs_stack_map one
+call g (one)
+call g (one)
+return
+";

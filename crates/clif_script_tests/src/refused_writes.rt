@@ -11,7 +11,7 @@ use std::test::Fail;
 
 /// The names of the rows, as `rows` prints them.
 pub const NAMES: &str =
-    "first\nmemcpy\nreordering\nsample\nsample_late\nboth_arms\nundef_vectors\nswitch_many\nswitch_128bit_max_u64\nswitch_high\nswitch_border\ncopy12\ncopy40\nslot_reuse\nloop\nirreducible\ntry_call\nzero_marked\nmemcmp_odd\nchange_both\nchange_one\nempty\n";
+    "first\nmemcpy\nreordering\nsample\nsample_late\nboth_arms\nundef_vectors\nswitch_many\nswitch_128bit_max_u64\nswitch_high\nswitch_border\ncopy12\ncopy40\nslot_reuse\nloop\nirreducible\ntry_call\nzero_marked\nmemcmp_odd\nchange_both\nchange_one\nempty\nregions\n";
 
 // Each write of what a program prints is refused in turn, until all writes are taken: with this status the program prints to
 // standard output, if that is 0, and else to standard error. Until then the status is 1, after the beginning of the text. Nothing

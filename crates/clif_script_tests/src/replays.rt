@@ -3,7 +3,7 @@
 #![tactic(auto)]
 
 ghost use Rattle.std.specs.Prelude.{◌≡◌};
-ghost use Rattle.clif_builder.specs.Context.{empty_context};
+ghost use Rattle.clif_builder.specs.Clear.{IsClear};
 
 use crate::data::EMPTY_TEXT;
 use crate::support::{function_of, parts, script_of};
@@ -84,13 +84,22 @@ fn replayed(
     ctx: &mut FunctionBuilderContext,
     notes: &mut ReplayNotes,
 ) -> Result<Result<Function, ReplayError>, AllocError>
-    requires { ctx.old ≡ empty_context }
-    ensures { ctx.new ≡ empty_context }
+    requires { IsClear ctx.old }
+    ensures { IsClear ctx.new }
 {
     let name = script.name.clone()?;
     let signature = script.signature.clone()?;
     let calls = script.calls.as_slice();
-    Ok(replay_noted(alloc, calls, name, signature, ctx, script.config, notes))
+    Ok(replay_noted(
+        alloc,
+        calls,
+        name,
+        signature,
+        ctx,
+        script.config,
+        None,
+        notes,
+    ))
 }
 
 // A function or an error has this text; where memory was refused the test itself fails.
@@ -117,8 +126,8 @@ fn gives(
     ctx: &mut FunctionBuilderContext,
     expected: &str,
 ) -> Result<(), Fail>
-    requires { ctx.old ≡ empty_context }
-    ensures { ctx.new ≡ empty_context }
+    requires { IsClear ctx.old }
+    ensures { IsClear ctx.new }
 {
     let mut notes = ReplayNotes::new(alloc);
     let answer = replayed(alloc, script, ctx, &mut notes)?;

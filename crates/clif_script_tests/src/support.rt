@@ -3,8 +3,12 @@
 
 use clif_builder::FunctionBuilderContext;
 use clif_ir::Function;
-use clif_script::{Form, Options, Printing, Run, TypeCheck, build, execute, replay, row_text, run};
+use clif_script::{
+    Form, Options, Printing, RegionOf, Run, Source, TypeCheck, build, execute, replay, row_text,
+    run,
+};
 use clif_text::{Script, read, write};
+use clif_types::{AliasRegion, AliasRegionData, AliasRegionSet, StackSlot, Type};
 use std::alloc::{AllocError, Global};
 use std::io;
 use std::io::Write;
@@ -97,16 +101,22 @@ impl Program<'_> {
         }
         let arguments = arguments.as_slice();
         Ok(match self {
-            Program::Build(script) => build(alloc, script, AS_TEXT, out, err),
-            Program::Execute(script, _, steps) => {
-                let options = Options {
-                    steps,
-                    is_traced: false,
-                };
-                let run = Run { arguments, options };
-                execute(alloc, script, &run, out, err)
-            }
-            Program::Rows(_) => run(alloc, arguments, out, err),
+            Program::Build(script) => match Source::read(alloc, script, err) {
+                Ok(source) => build(alloc, source, AS_TEXT, None, out, err),
+                Err(status) => status,
+            },
+            Program::Execute(script, _, steps) => match Source::read(alloc, script, err) {
+                Ok(source) => {
+                    let options = Options {
+                        steps,
+                        is_traced: false,
+                    };
+                    let run = Run { arguments, options };
+                    execute(alloc, &source, &run, None, out, err)
+                }
+                Err(status) => status,
+            },
+            Program::Rows(_) => print_rows(alloc, arguments, out, err)?,
         })
     }
 
@@ -124,6 +134,27 @@ impl Program<'_> {
             err: err.bytes,
         })
     }
+}
+
+// Runs `rows`, with the callback of the program: it answers the region of user id 7.
+fn print_rows(
+    alloc: Global,
+    arguments: &[String],
+    out: &mut Limited,
+    err: &mut Limited,
+) -> Result<u8, AllocError> {
+    let region: RegionOf = Box::new(
+        alloc,
+        |set: &mut AliasRegionSet, _ty: Type, _slot: StackSlot, _offset: u32| -> Option<
+            AliasRegion,
+        > {
+            match set.insert(AliasRegionData { user_id: 7 }) {
+                Ok(region) => Some(region),
+                Err(_) => None,
+            }
+        },
+    )?;
+    Ok(run(alloc, arguments, region, out, err))
 }
 
 /// What stands before `=>` in a row, a script, and what is expected of it.
@@ -150,11 +181,20 @@ pub fn function_of(alloc: Global, text: &str) -> Result<Function, Fail> {
         config,
         answers: _,
         moves: _,
+        region: _,
         calls,
         lines: _,
     } = script_of(alloc, text)?;
     let mut ctx = FunctionBuilderContext::new(alloc);
-    Ok(replay(alloc, calls.as_slice(), name, signature, &mut ctx, config)?)
+    Ok(replay(
+        alloc,
+        calls.as_slice(),
+        name,
+        signature,
+        &mut ctx,
+        config,
+        None,
+    )?)
 }
 
 /// The script that the calls of a script are written as.

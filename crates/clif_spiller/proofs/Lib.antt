@@ -24,3 +24,4 @@ mod Waiting
 mod Landed
 mod Text
 mod Progressing
+mod Asked

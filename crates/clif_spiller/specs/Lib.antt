@@ -8,3 +8,4 @@ pub mod Text
 pub mod Acting
 pub mod Progress
 pub mod Spills
+pub mod Regions

@@ -59,7 +59,7 @@ no_key_error : (e : BuildError) (ty : «Type») (max : ℕ) → ◌≡◌ {A = R
 no_key_error e ty max same = cc
 
 -- something failed as it was built
-pub failed_by : (cases : CaseMap) (value otherwise : ℕ) (old new : FunctionBuilder) (e : BuildError) → ((max : ℕ) → old.failed ≡ false → IsKeyTooWide cases (value_at old.func.now value).ty max → ⊥)
+pub failed_by : {R : Type 0} (cases : CaseMap) (value otherwise : ℕ) (old new : FunctionBuilder R) (e : BuildError) → ((max : ℕ) → old.failed ≡ false → IsKeyTooWide cases (value_at old.func.now value).ty max → ⊥)
     → Steps {A = Unit {0}} old new (Err e) → Emits cases value otherwise old new (Err (switch_error.Build e))
 failed_by cases value otherwise old new e fits steps = record {
   loans = steps.loans;
@@ -104,7 +104,7 @@ memory_not_wide {A} cases ty error e is refuses max wide = apart ((refuses.1 max
     apart : ◌≡◌ {A = Result A SwitchError} (Err error) (Err (switch_error.KeyTooWide ty max)) → ⊥
     apart same = cc
 
-module _ (cases : CaseMap) (value otherwise : ℕ) (b : FunctionBuilder) where
+module _ {R : Type 0} (cases : CaseMap) (value otherwise : ℕ) (b : FunctionBuilder R) where
   abbrev held : «Type»
   held = (value_at b.func.now value).ty
 
@@ -113,7 +113,7 @@ module _ (cases : CaseMap) (value otherwise : ℕ) (b : FunctionBuilder) where
       → ((max : ℕ) → ◌≡◌ {A = Result (Unit {0}) SwitchError} (Err error) (Err (switch_error.KeyTooWide held max)) ↔ ((b.failed ≡ false) × IsKeyTooWide cases held max))
       → Emits cases value otherwise b b (Err error)
   unemitted error why failed wide = record {
-    loans = record { func = refl; ctx = refl };
+    loans = record { func = refl; ctx = refl; region = refl };
     srcloc = refl;
     failed = failed;
     unchanged = λ is. refl;
@@ -183,8 +183,8 @@ mapped {X} f (y ∷ xs) x here =
       | inr further ↦ contained_later (f y) (map f xs) (f x) (later further)
     ]
 
-module _ (reads : LedgerIsReadByNumber) (asks : RequestsAskForTheirShapes) (codes : SwitchCallsAreCode)
-    (cases : CaseMap) (value otherwise : ℕ) (old new : FunctionBuilder) (ranges : List CaseRange) (nodes : List Node) (may : MayEmit cases value otherwise old)
+module _ {R : Type 0} (reads : LedgerIsReadByNumber) (asks : RequestsAskForTheirShapes) (codes : SwitchCallsAreCode)
+    (cases : CaseMap) (value otherwise : ℕ) (old new : FunctionBuilder R) (ranges : List CaseRange) (nodes : List Node) (may : MayEmit cases value otherwise old)
     (fits : AreRangesFor cases (value_at old.func.now value).ty ranges) (fewest : AreFewest ranges) (finds : FindsCases ranges nodes 0) (order : AreInOrder (0 ∷ []) 1 nodes) (tests : AreTestsOf ranges nodes) where
   abbrev entries : List (ℕ × ℕ)
   entries = finite.entries cases
@@ -219,7 +219,7 @@ module _ (reads : LedgerIsReadByNumber) (asks : RequestsAskForTheirShapes) (code
     block_there =
         let name : block_name (ledger_of calls) may.current.0 ≡ Some block =
         same_some (sym (ap (option_map (block_name (ledger_of calls))) may.current.1) ∙ sym stands.ledger.current ∙ ap (option_map Some) current) in
-        ap is_some ((reads calls old.func.now old.ctx.now old.position stands.ledger).state may.current.0 block name).found
+        ap is_some ((reads calls old.func.now old.ctx.now.parts old.position stands.ledger).state may.current.0 block name).found
       where
         same_some : {x y : Option Name} → Some x ≡ Some y → x ≡ y
         same_some same = cc

@@ -39,7 +39,7 @@ slice_get-last [] x = refl
 slice_get-last (y ∷ xs) x = slice_get-last xs x
 
 -- the answer to a call that creates a block names it
-created_named : (reads : LedgerIsReadByNumber) (signature : SignatureShape) (calls : List AnsweredCall) (old new : FunctionBuilder) (block : ℕ) → StandsFor signature calls old
+created_named : {R : Type 0} (reads : LedgerIsReadByNumber) (signature : SignatureShape) (calls : List AnsweredCall) (old new : FunctionBuilder R) (block : ℕ) → StandsFor signature calls old
     → StandsFor signature (calls ++ answered CreateBlock (block ∷ []) ∷ []) new → NamesBlock (calls ++ answered CreateBlock (block ∷ []) ∷ []) (answer_of (length calls) 0) block
 created_named reads signature calls old new block before after =
     let call : AnsweredCall = answered CreateBlock (block ∷ []) in
@@ -49,12 +49,12 @@ created_named reads signature calls old new block before after =
     let named = (after.ledger.answers (length calls) call (ABlock ∷ []) (slice_get-last calls call) there).each 0 ABlock block refl refl in
     record {
       number = ap (option_and_then (λ (one : AnsweredCall). slice_get one.numbers 0)) (slice_get-last calls call);
-      is_block = ap is_some ((reads (calls ++ call ∷ []) new.func.now new.ctx.now new.position after.ledger).state block (answer_of (length calls) 0) named).found;
+      is_block = ap is_some ((reads (calls ++ call ∷ []) new.func.now new.ctx.now.parts new.position after.ledger).state block (answer_of (length calls) 0) named).found;
     }
 
-module _ (reads : LedgerIsReadByNumber) {signature : SignatureShape} {calls : List AnsweredCall} {s : Switched} {x otherwise : ℕ} {cases : List ℕ} {plain : Script} {old : FunctionBuilder}
+module _ {R : Type 0} (reads : LedgerIsReadByNumber) {signature : SignatureShape} {calls : List AnsweredCall} {s : Switched} {x otherwise : ℕ} {cases : List ℕ} {plain : Script} {old : FunctionBuilder R}
     (at : StandsAt signature calls s x otherwise cases plain old) where
-  pub block_made : (new : FunctionBuilder) (block : ℕ) → StandsFor signature ((calls ++ at.added) ++ answered CreateBlock (block ∷ []) ∷ []) new
+  pub block_made : (new : FunctionBuilder R) (block : ℕ) → StandsFor signature ((calls ++ at.added) ++ answered CreateBlock (block ∷ []) ∷ []) new
       → NamesTarget at (CreateBlock ∷ []) new (answer_of (next_place calls plain) 0) block
   unfolding stands_behind
   block_made new block stands =
@@ -68,7 +68,7 @@ module _ (reads : LedgerIsReadByNumber) {signature : SignatureShape} {calls : Li
       }
 
 -- a block was created
-pub created_went : (old new : FunctionBuilder) (block : ℕ) → IsCall old new (Ok block) → new.ctx.now.variables ≡ old.ctx.now.variables → Grows old.func.now new.func.now → ((x b : ℕ) → RemembersIn x b old new) → SameBlocks old.ctx.now.ssa new.ctx.now.ssa
+pub created_went : {R : Type 0} (old new : FunctionBuilder R) (block : ℕ) → IsCall old new (Ok block) → new.ctx.now.parts.variables ≡ old.ctx.now.parts.variables → Grows old.func.now new.func.now → ((x b : ℕ) → RemembersIn x b old new) → SameBlocks old.ctx.now.parts.ssa new.ctx.now.parts.ssa
     → HasCurrent new → Went old new
 created_went old new block call variables grows remembers sealed current = record {
   steps = steps_ok old new block (tt {0}) (call_steps old new (Ok block) call variables grows remembers);
@@ -85,7 +85,7 @@ created_went old new block call variables grows remembers sealed current = recor
 no_status : Empty ≡ Filled → ⊥
 no_status same = cc
 
-pub created_open : (b : FunctionBuilder) (block : ℕ) → block < length b.func.now.blocks → IsUntouched b.ctx.now block → IsOpenFor b block
+pub created_open : {R : Type 0} (b : FunctionBuilder R) (block : ℕ) → block < length b.func.now.blocks → IsUntouched b.ctx.now.parts block → IsOpenFor b block
 created_open b block exists untouched = record {
   leads = record { exists = exists; unsealed = untouched.unsealed };
   unfilled = λ filled. no_status (sym untouched.pristine ∙ filled);
@@ -95,11 +95,11 @@ pub some_same : (a b : ℕ) → Some a ≡ Some b → a ≡ b
 some_same a b same = cc
 
 -- the current block isn't one that comes later
-pub elsewhere : (b : FunctionBuilder) (block : ℕ) → HasCurrent b → length b.func.now.blocks ≤ block → b.position ≢ Some block
+pub elsewhere : {R : Type 0} (b : FunctionBuilder R) (block : ℕ) → HasCurrent b → length b.func.now.blocks ≤ block → b.position ≢ Some block
 elsewhere b block (current, here, exists, unfilled) later is = let same = some_same current block (sym here ∙ is) in omega (arith, same, exists, later)
 
 -- a block stays open that isn't the current one
-pub open_on : (old new : FunctionBuilder) (block : ℕ) → length old.func.now.blocks ≤ length new.func.now.blocks → LeavesBlocks old new → old.position ≢ Some block → IsOpenFor old block → IsOpenFor new block
+pub open_on : {R : Type 0} (old new : FunctionBuilder R) (block : ℕ) → length old.func.now.blocks ≤ length new.func.now.blocks → LeavesBlocks old new → old.position ≢ Some block → IsOpenFor old block → IsOpenFor new block
 open_on old new block more leaves other was = record {
   leads = may_lead_on old new block more leaves was.leads;
   unfilled = λ filled. was.unfilled (leaves.fills block was.leads.exists other filled);
@@ -108,7 +108,7 @@ open_on old new block more leaves other was = record {
 -- ENDS OF BLOCKS ----------------------------------------------------------------------------------------------------------
 
 -- a terminator was built
-pub ends_by : (old new : FunctionBuilder) (shape : InstructionData) (ty : «Type») (inst : ℕ) → is_terminator shape ≡ true → Builds old new shape ty (Ok inst) → EndsBlock {A = Unit {0}} 0 old new done
+pub ends_by : {R : Type 0} (old new : FunctionBuilder R) (shape : InstructionData) (ty : «Type») (inst : ℕ) → is_terminator shape ≡ true → Builds old new shape ty (Ok inst) → EndsBlock {A = Unit {0}} 0 old new done
 ends_by old new shape ty inst ends builds = record {
   steps = steps_ok old new inst (tt {0}) (builds_steps old new shape ty (Ok inst) builds);
   leaves = record {
@@ -122,10 +122,10 @@ ends_by old new shape ty inst ends builds = record {
 }
 
 -- nothing was built, since something failed
-pub ends_failed : {A : Type 0} (count : ℕ) (old new : FunctionBuilder) (e : BuildError) → Steps {A = A} old new (Err e) → EndsBlock {A = A} count old new (Err e)
+pub ends_failed : {A : Type 0} {R : Type 0} (count : ℕ) (old new : FunctionBuilder R) (e : BuildError) → Steps {A = A} old new (Err e) → EndsBlock {A = A} count old new (Err e)
 ends_failed count old new e steps = record { steps = steps; leaves = tt; tables = tt; left = tt; free = tt }
 
-pub ends_error : {A : Type 0} (count : ℕ) (old mid new : FunctionBuilder) (r : Result A BuildError) (e : BuildError) (shape : InstructionData) (ty : «Type») → Went old mid → Builds mid new shape ty (Err e) → IsErrAnd r (λ y. y ≡ e)
+pub ends_error : {A : Type 0} {R : Type 0} (count : ℕ) (old mid new : FunctionBuilder R) (r : Result A BuildError) (e : BuildError) (shape : InstructionData) (ty : «Type») → Went old mid → Builds mid new shape ty (Err e) → IsErrAnd r (λ y. y ≡ e)
     → EndsBlock {A = A} count old new r
 ends_error {A} count old mid new (Ok a) e shape ty went builds is = absurd is
 ends_error {A} count old mid new (Err y) e shape ty went builds is =
@@ -133,7 +133,7 @@ ends_error {A} count old mid new (Err y) e shape ty went builds is =
     (ends_failed count old new e (steps_on old mid new (tt {0}) (Err e) went.steps (steps_err mid new e (builds_steps mid new shape ty (Err e) builds))))
 
 -- behind a line, and with another answer
-pub ends_then : {A : Type 0} (count : ℕ) (old mid new : FunctionBuilder) (answer : A) → Went old mid → EndsBlock {A = Unit {0}} count mid new done → EndsBlock {A = A} count old new (Ok answer)
+pub ends_then : {A : Type 0} {R : Type 0} (count : ℕ) (old mid new : FunctionBuilder R) (answer : A) → Went old mid → EndsBlock {A = Unit {0}} count mid new done → EndsBlock {A = A} count old new (Ok answer)
 ends_then count old mid new answer went ends = record {
   steps = steps_ok old new (tt {0}) answer (steps_on old mid new (tt {0}) done went.steps ends.steps);
   leaves = leaves_on old mid new went.steps.grows.2 went.leaves ends.leaves;
@@ -143,13 +143,13 @@ ends_then count old mid new answer went ends = record {
 }
 
 -- a comparison with a constant was built
-pub with_constant_went : (old new : FunctionBuilder) (shape : ℕ → InstructionData) (imm : ℤ) (like : ℕ) (ty : «Type») (v : ℕ) → BuildsWithConstant BuildsValue BuildsLike shape ty imm like old new (Ok v) → Went old new
+pub with_constant_went : {R : Type 0} (old new : FunctionBuilder R) (shape : ℕ → InstructionData) (imm : ℤ) (like : ℕ) (ty : «Type») (v : ℕ) → BuildsWithConstant BuildsValue BuildsLike shape ty imm like old new (Ok v) → Went old new
 with_constant_went old new shape imm like ty v (inl (mid, constant, first, next)) = went_then old mid new (constant_went old mid imm ty constant first) (value_went mid new (shape constant) _ v next)
 with_constant_went old new shape imm like ty v (inr (e, first, failed)) = cc
 
 -- IN PLACE ----------------------------------------------------------------------------------------------------------------
 
-pub went_stays : {A : Type 0} (old new : FunctionBuilder) (answer : A) → Went old new → StaysHere old new (Ok answer)
+pub went_stays : {A : Type 0} {R : Type 0} (old new : FunctionBuilder R) (answer : A) → Went old new → StaysHere old new (Ok answer)
 went_stays old new answer went = record {
   steps = steps_ok old new (tt {0}) answer went.steps;
   leaves = went.leaves;
@@ -158,7 +158,7 @@ went_stays old new answer went = record {
   current = went.current;
 }
 
-pub stays_went : {A : Type 0} (old new : FunctionBuilder) (answer : A) → StaysHere old new (Ok answer) → Went old new
+pub stays_went : {A : Type 0} {R : Type 0} (old new : FunctionBuilder R) (answer : A) → StaysHere old new (Ok answer) → Went old new
 stays_went old new answer stays = record {
   steps = steps_ok old new answer (tt {0}) stays.steps;
   position = stays.position;
@@ -167,9 +167,9 @@ stays_went old new answer stays = record {
   current = stays.current;
 }
 
-pub stays_failed : {A : Type 0} (old new : FunctionBuilder) (e : BuildError) → Steps {A = A} old new (Err e) → StaysHere {A = A} old new (Err e)
+pub stays_failed : {A : Type 0} {R : Type 0} (old new : FunctionBuilder R) (e : BuildError) → Steps {A = A} old new (Err e) → StaysHere {A = A} old new (Err e)
 stays_failed old new e steps = record { steps = steps; leaves = tt; tables = tt; position = tt; current = tt }
 
 -- memory was refused behind a line
-pub refused_then : {A : Type 0} (old mid new : FunctionBuilder) (e : BuildError) (shape : InstructionData) (ty : «Type») → Went old mid → Builds mid new shape ty (Err e) → Steps {A = A} old new (Err e)
+pub refused_then : {A : Type 0} {R : Type 0} (old mid new : FunctionBuilder R) (e : BuildError) (shape : InstructionData) (ty : «Type») → Went old mid → Builds mid new shape ty (Err e) → Steps {A = A} old new (Err e)
 refused_then old mid new e shape ty went builds = steps_on old mid new (tt {0}) (Err e) went.steps (steps_err mid new e (builds_steps mid new shape ty (Err e) builds))

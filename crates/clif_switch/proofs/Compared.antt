@@ -27,13 +27,13 @@ use Rattle.clif_switch.proofs.Lines.{value_built}
 use Rattle.clif_switch.proofs.Names.{stands_behind}
 use Rattle.clif_switch.proofs.Numbers.{asks_here, place_after, value_then}
 
-module _ (reads : LedgerIsReadByNumber) (asks : RequestsAskForTheirShapes) {signature : SignatureShape} {calls : List AnsweredCall} {s : Switched} {x otherwise : ℕ} {cases : List ℕ} {plain : Script} {old : FunctionBuilder}
+module _ {R : Type 0} (reads : LedgerIsReadByNumber) (asks : RequestsAskForTheirShapes) {signature : SignatureShape} {calls : List AnsweredCall} {s : Switched} {x otherwise : ℕ} {cases : List ℕ} {plain : Script} {old : FunctionBuilder R}
     (at : StandsAt signature calls s x otherwise cases plain old) where
   abbrev place : ℕ
   place = next_place calls plain
 
   -- calls that are known otherwise
-  pub named_with : (more : Script) (name : Name) (new : FunctionBuilder) (v : ℕ) → StandsWith signature (calls ++ at.added) more name new v → NamesAnswer at more new name v
+  pub named_with : (more : Script) (name : Name) (new : FunctionBuilder R) (v : ℕ) → StandsWith signature (calls ++ at.added) more name new v → NamesAnswer at more new name v
   unfolding stands_behind
   named_with more name new v with = record {
     on = stands_behind reads at with.added more new with.asked with.stands;
@@ -41,7 +41,7 @@ module _ (reads : LedgerIsReadByNumber) (asks : RequestsAskForTheirShapes) {sign
   }
 
   -- arithmetic on the value and a number that was made before
-  pub with_number_made : (mid new : FunctionBuilder) (number k : ℕ) (arithmetic : Arithmetic) (shape : InstructionData) (ty answer_type : «Type») (answer : Result ℕ BuildError)
+  pub with_number_made : (mid new : FunctionBuilder R) (number k : ℕ) (arithmetic : Arithmetic) (shape : InstructionData) (ty answer_type : «Type») (answer : Result ℕ BuildError)
       → (made : NamesAnswer at (number_calls number s place) mid (number_named number s place) k) → BuildsValue mid new shape ty answer
       → AsksForShape (calls ++ made.on.later.added) mid.func.now (building (computing arithmetic s.ty (s.value ∷ number_named number s place ∷ []))) shape ty
       → emitted_types (computing arithmetic s.ty (s.value ∷ number_named number s place ∷ [])) ≡ answer_type ∷ []
@@ -55,7 +55,7 @@ module _ (reads : LedgerIsReadByNumber) (asks : RequestsAskForTheirShapes) {sign
       (value_built reads made.on.later new shape ty s.ty answer_type v arithmetic (s.value ∷ number_named number s place ∷ []) builds asked gives))
 
   -- a branch on a value
-  pub branch_made : (new : FunctionBuilder) (ty : «Type») (name t o : Name) (v taken other inst : ℕ) → NamesValue (calls ++ at.added) name v → or_invalid (type_of (ledger_of (calls ++ at.added)) name) ≡ ty
+  pub branch_made : (new : FunctionBuilder R) (ty : «Type») (name t o : Name) (v taken other inst : ℕ) → NamesValue (calls ++ at.added) name v → or_invalid (type_of (ledger_of (calls ++ at.added)) name) ≡ ty
       → NamesBlock (calls ++ at.added) t taken → NamesBlock (calls ++ at.added) o other → Builds old new (shapes.brif_to v taken [] other []) type.Invalid (Ok inst)
       → StandsOn at (branching ty name t o ∷ []) new
   branch_made new ty name t o v taken other inst names held tn on builds =

@@ -177,8 +177,8 @@ made_entering blocks zero = refl
 made_entering blocks (suc number) = refl
 
 -- behind calls there are as many tables more as they make
-pub tables_grow : {signature : SignatureShape} {calls : List AnsweredCall} {s : Switched} {x otherwise : ℕ} {cases : List ℕ} {plain : Script} {old : FunctionBuilder}
-    (at : StandsAt signature calls s x otherwise cases plain old) (more : Script) (new : FunctionBuilder) (on : StandsOn at more new) → tables_at on.later ≡ tables_at at + made_in more
+pub tables_grow : {R : Type 0} {signature : SignatureShape} {calls : List AnsweredCall} {s : Switched} {x otherwise : ℕ} {cases : List ℕ} {plain : Script} {old : FunctionBuilder R}
+    (at : StandsAt signature calls s x otherwise cases plain old) (more : Script) (new : FunctionBuilder R) (on : StandsOn at more new) → tables_at on.later ≡ tables_at at + made_in more
 tables_grow {calls = calls} {plain = plain} at more new on =
     let before = tables_behind calls at.added plain at.asked in
     let after = tables_behind calls on.later.added (plain ++ more) on.later.asked in

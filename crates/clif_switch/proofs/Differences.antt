@@ -41,7 +41,7 @@ behind_is type.Invalid imm place = omega arith
 behind_is (type.Vector l k) imm place = omega arith
 
 -- nothing was called
-unfoldable pub on_none : {signature : SignatureShape} {calls : List AnsweredCall} {s : Switched} {x otherwise : ℕ} {cases : List ℕ} {plain : Script} {old : FunctionBuilder}
+unfoldable pub on_none : {R : Type 0} {signature : SignatureShape} {calls : List AnsweredCall} {s : Switched} {x otherwise : ℕ} {cases : List ℕ} {plain : Script} {old : FunctionBuilder R}
     (at : StandsAt signature calls s x otherwise cases plain old) → StandsOn at [] old
 on_none {plain = plain} at = record {
   later = record {
@@ -57,7 +57,7 @@ on_none {plain = plain} at = record {
   values_stay = λ name value names. names;
 }
 
-module _ {signature : SignatureShape} {calls : List AnsweredCall} {s : Switched} {x otherwise : ℕ} {cases : List ℕ} {plain : Script} {old : FunctionBuilder}
+module _ {R : Type 0} {signature : SignatureShape} {calls : List AnsweredCall} {s : Switched} {x otherwise : ℕ} {cases : List ℕ} {plain : Script} {old : FunctionBuilder R}
     (at : StandsAt signature calls s x otherwise cases plain old) where
   abbrev place : ℕ
   place = next_place calls plain
@@ -70,11 +70,11 @@ module _ {signature : SignatureShape} {calls : List AnsweredCall} {s : Switched}
   pub none_made : (first : ℕ) → first ≡ 0 → NamesAnswer at (difference_calls first s place) old (difference_named first s place) x
   none_made first is = subst (λ (n : ℕ). NamesAnswer at (difference_calls n s place) old (difference_named n s place) x) (sym is) none_at
 
-  abbrev HasMade : ℕ → FunctionBuilder → Result ℕ BuildError → Type 0
+  abbrev HasMade : ℕ → FunctionBuilder R → Result ℕ BuildError → Type 0
   HasMade first new answer = IfOk answer (NamesAnswer at (difference_calls first s place) new (difference_named first s place))
 
   -- by the test of a range that starts above
-  by_test : (first : ℕ) (new : FunctionBuilder) (answer : Result ℕ BuildError) (line : List (Instruction Name Name)) (name : Name) → difference s.ty (suc first) place s.value ≡ line
+  by_test : (first : ℕ) (new : FunctionBuilder R) (answer : Result ℕ BuildError) (line : List (Instruction Name Name)) (name : Name) → difference s.ty (suc first) place s.value ≡ line
       → answer_of (place + (length line - 1)) 1 ≡ name → IfOk answer (NamesAnswer at (map building line) new name) → HasMade (suc first) new answer
   by_test first new answer line name is named made =
       subst (λ (l : List (Instruction Name Name)). IfOk answer (NamesAnswer at (map building l) new (answer_of (place + (length l - 1)) 1))) (sym is)
@@ -83,7 +83,7 @@ module _ {signature : SignatureShape} {calls : List AnsweredCall} {s : Switched}
   last_place : {X : Type 0} (xs : List X) (y : X) → place + (length (xs ++ y ∷ []) - 1) ≡ place + length xs
   last_place xs y = let is = length-append xs (y ∷ []) in omega (arith, is)
 
-  pub subtracted_made : (first : ℕ) (new : FunctionBuilder) (answer : Result ℕ BuildError) → (first ≡ 0 → ⊥) → is_subtracted s.ty first ≡ true
+  pub subtracted_made : (first : ℕ) (new : FunctionBuilder R) (answer : Result ℕ BuildError) → (first ≡ 0 → ⊥) → is_subtracted s.ty first ≡ true
       → IfOk answer (NamesAnswer at (map building (with_number (Binary Isub) s.ty first place s.value)) new (with_number_name s.ty first place)) → HasMade first new answer
   subtracted_made zero new answer some is made = absurd (some refl)
   subtracted_made (suc first) new answer some is made =
@@ -92,7 +92,7 @@ module _ {signature : SignatureShape} {calls : List AnsweredCall} {s : Switched}
       else constant_instructions s.ty (negated_64 (suc first)) place ++ computing (Binary Iadd) s.ty (s.value ∷ constant_name s.ty place ∷ []) ∷ []) is)
       (ap (λ (p : ℕ). answer_of p 1) (last_place _ _)) made
 
-  pub summed_made : (first : ℕ) (new : FunctionBuilder) (answer : Result ℕ BuildError) → (first ≡ 0 → ⊥) → is_subtracted s.ty first ≡ false → place_behind s.ty place ≡ place + length (constant_instructions s.ty (negated_64 first) place)
+  pub summed_made : (first : ℕ) (new : FunctionBuilder R) (answer : Result ℕ BuildError) → (first ≡ 0 → ⊥) → is_subtracted s.ty first ≡ false → place_behind s.ty place ≡ place + length (constant_instructions s.ty (negated_64 first) place)
       → IfOk answer (NamesAnswer at (constant_calls (Binary Iadd) s.ty (negated_64 first) place s.value) new (answer_of (place_behind s.ty place) 1)) → HasMade first new answer
   summed_made zero new answer some is behind made = absurd (some refl)
   summed_made (suc first) new answer some is behind made =
@@ -118,8 +118,8 @@ small_summed ty first small = by (is_widest ty)
     by false = refl
 
 -- arithmetic with a constant of 64 bits on a named value
-pub with_constant_made : (reads : LedgerIsReadByNumber) (asks : RequestsAskForTheirShapes) {signature : SignatureShape} {calls : List AnsweredCall} {s : Switched} {x otherwise : ℕ} {cases : List ℕ} {plain : Script} {old : FunctionBuilder}
-    (at : StandsAt signature calls s x otherwise cases plain old) (new : FunctionBuilder) (arithmetic : Arithmetic) (shape : ℕ → ℕ → InstructionData) → StandsBehind arithmetic shape → (name : Name) (y : ℕ) (imm : ℤ) (ty : «Type») (answer : Result ℕ BuildError)
+pub with_constant_made : {R : Type 0} (reads : LedgerIsReadByNumber) (asks : RequestsAskForTheirShapes) {signature : SignatureShape} {calls : List AnsweredCall} {s : Switched} {x otherwise : ℕ} {cases : List ℕ} {plain : Script} {old : FunctionBuilder R}
+    (at : StandsAt signature calls s x otherwise cases plain old) (new : FunctionBuilder R) (arithmetic : Arithmetic) (shape : ℕ → ℕ → InstructionData) → StandsBehind R arithmetic shape → (name : Name) (y : ℕ) (imm : ℤ) (ty : «Type») (answer : Result ℕ BuildError)
     → NamesValue (calls ++ at.added) name y → type_in old y ≡ ty → BuildsWithConstant BuildsValue BuildsLike (shape y) (type_in old y) imm y old new answer
     → IfOk answer (NamesAnswer at (constant_calls arithmetic ty imm (next_place calls plain) name) new (answer_of (place_behind ty (next_place calls plain)) 1))
 with_constant_made reads asks at new arithmetic shape law name y imm ty (Err e) names same builds = tt

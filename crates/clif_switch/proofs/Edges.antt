@@ -23,15 +23,15 @@ use Rattle.clif_switch.proofs.Steps.{builds_steps, steps_err, steps_ok, steps_on
 use Rattle.clif_switch.proofs.Values.{done}
 
 -- nothing changed, and nothing failed
-pub record Kept (old new : FunctionBuilder) : Type 0 where
+pub record Kept {R : Type 0} (old new : FunctionBuilder R) : Type 0 where
   pub steps : Steps old new done
   pub function : new.func.now ≡ old.func.now
-  pub context : new.ctx.now ≡ old.ctx.now
+  pub context : new.ctx.now.parts ≡ old.ctx.now.parts
   pub position : new.position ≡ old.position
   pub stands : (signature : SignatureShape) (calls : List AnsweredCall) → StandsFor signature calls old → StandsFor signature calls new
 
 -- the tables were set
-pub set_steps : {A : Type 0} (old new : FunctionBuilder) (tables : TableLists) (answer : Result A BuildError) → tables.exception_tables ≡ old.func.now.tables.exception_tables → SetsTables tables old new answer → Steps old new answer
+pub set_steps : {A : Type 0} {R : Type 0} (old new : FunctionBuilder R) (tables : TableLists) (answer : Result A BuildError) → tables.exception_tables ≡ old.func.now.tables.exception_tables → SetsTables tables old new answer → Steps old new answer
 set_steps {A} old new tables answer kept sets = record {
   loans = sets.call.loans;
   srcloc = sets.call.srcloc;
@@ -51,7 +51,7 @@ set_steps {A} old new tables answer kept sets = record {
     by (Err e) is = tt
 
 -- the first edge
-pub kept_first : (old new : FunctionBuilder) (block : ℕ) (args : List BlockArg) (edge : BlockCall) → MakesEdge block args old new (Ok edge) → Kept old new
+pub kept_first : {R : Type 0} (old new : FunctionBuilder R) (block : ℕ) (args : List BlockArg) (edge : BlockCall) → MakesEdge block args old new (Ok edge) → Kept old new
 kept_first old new block args edge makes = record {
   steps = steps_ok old new edge (tt {0}) (set_steps old new old.func.now.tables (Ok edge) refl makes.sets);
   function = makes.sets.function;
@@ -61,7 +61,7 @@ kept_first old new block args edge makes = record {
 }
 
 -- another edge
-pub kept_on : (old mid new : FunctionBuilder) → Kept old mid → Kept mid new → Kept old new
+pub kept_on : {R : Type 0} (old mid new : FunctionBuilder R) → Kept old mid → Kept mid new → Kept old new
 kept_on old mid new first next = record {
   steps = steps_on old mid new (tt {0}) done first.steps next.steps;
   function = next.function ∙ first.function;
@@ -70,11 +70,11 @@ kept_on old mid new first next = record {
   stands = λ signature calls stands. next.stands signature calls (first.stands signature calls stands);
 }
 
-no_table : (edges : List BlockCall) (old new : FunctionBuilder) (e : BuildError) → Steps {A = ℕ} old new (Err e) → MakesTable edges old new (Err e)
+no_table : {R : Type 0} (edges : List BlockCall) (old new : FunctionBuilder R) (e : BuildError) → Steps {A = ℕ} old new (Err e) → MakesTable edges old new (Err e)
 no_table edges old new e steps = record { steps = steps; context = tt; position = tt; function = tt; number = tt; stands = λ signature calls stands. tt }
 
 -- the table of these edges
-pub table_made : (edges : List BlockCall) (old mid new : FunctionBuilder) (answer : Result ℕ BuildError) → Kept old mid → CreatesJumpTable edges mid new answer → MakesTable edges old new answer
+pub table_made : {R : Type 0} (edges : List BlockCall) (old mid new : FunctionBuilder R) (answer : Result ℕ BuildError) → Kept old mid → CreatesJumpTable edges mid new answer → MakesTable edges old new answer
 table_made edges old mid new (Err e) kept creates =
     no_table edges old new e (steps_on old mid new (tt {0}) (Err e) kept.steps (set_steps mid new (with_jump_table mid.func.now.tables edges) (Err e) refl creates.sets))
 table_made edges old mid new (Ok table) kept creates = record {
@@ -87,12 +87,12 @@ table_made edges old mid new (Ok table) kept creates = record {
 }
 
 -- an edge failed, the first one or another
-pub first_failed : (edges : List BlockCall) (old new : FunctionBuilder) (block : ℕ) (args : List BlockArg) (r : Result ℕ BuildError) (e : BuildError) → MakesEdge block args old new (Err e) → IsErrAnd r (λ y. y ≡ e) → MakesTable edges old new r
+pub first_failed : {R : Type 0} (edges : List BlockCall) (old new : FunctionBuilder R) (block : ℕ) (args : List BlockArg) (r : Result ℕ BuildError) (e : BuildError) → MakesEdge block args old new (Err e) → IsErrAnd r (λ y. y ≡ e) → MakesTable edges old new r
 first_failed edges old new block args (Ok a) e makes is = absurd is
 first_failed edges old new block args (Err y) e makes is =
     subst (λ (error : BuildError). MakesTable edges old new (Err error)) (sym is) (no_table edges old new e (steps_err old new e (set_steps old new old.func.now.tables (Err e) refl makes.sets)))
 
-pub edge_failed : (edges : List BlockCall) (old mid new : FunctionBuilder) (block : ℕ) (args : List BlockArg) (r : Result ℕ BuildError) (e : BuildError) → Kept old mid → MakesEdge block args mid new (Err e) → IsErrAnd r (λ y. y ≡ e)
+pub edge_failed : {R : Type 0} (edges : List BlockCall) (old mid new : FunctionBuilder R) (block : ℕ) (args : List BlockArg) (r : Result ℕ BuildError) (e : BuildError) → Kept old mid → MakesEdge block args mid new (Err e) → IsErrAnd r (λ y. y ≡ e)
     → MakesTable edges old new r
 edge_failed edges old mid new block args (Ok a) e kept makes is = absurd is
 edge_failed edges old mid new block args (Err y) e kept makes is =
@@ -100,7 +100,7 @@ edge_failed edges old mid new block args (Err y) e kept makes is =
     (no_table edges old new e (steps_on old mid new (tt {0}) (Err e) kept.steps (steps_err mid new e (set_steps mid new mid.func.now.tables (Err e) refl makes.sets))))
 
 -- memory was refused for the edges
-pub table_refused : (edges : List BlockCall) (old mid new : FunctionBuilder) (e : BuildError) (shape : InstructionData) (ty : «Type») → Kept old mid → Builds mid new shape ty (Err e) → MakesTable edges old new (Err e)
+pub table_refused : {R : Type 0} (edges : List BlockCall) (old mid new : FunctionBuilder R) (e : BuildError) (shape : InstructionData) (ty : «Type») → Kept old mid → Builds mid new shape ty (Err e) → MakesTable edges old new (Err e)
 table_refused edges old mid new e shape ty kept builds =
     no_table edges old new e (steps_on old mid new (tt {0}) (Err e) kept.steps (steps_err mid new e (builds_steps mid new shape ty (Err e) builds)))
 

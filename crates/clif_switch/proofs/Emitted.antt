@@ -25,8 +25,8 @@ use Rattle.clif_switch.proofs.Steps.{leaves_on, may_lead_on, steps_on}
 use Rattle.clif_switch.proofs.Values.{done}
 
 -- what the builder stands for between two nodes
-pub record Between {signature : SignatureShape} {calls : List AnsweredCall} {s : Switched} {x otherwise : ℕ} {cases : List ℕ} {plain : Script} {old : FunctionBuilder}
-    (at : StandsAt signature calls s x otherwise cases plain old) (nodes rest : List Node) (blocks : List ℕ) (new : FunctionBuilder) : Type 0 where
+pub record Between {R : Type 0} {signature : SignatureShape} {calls : List AnsweredCall} {s : Switched} {x otherwise : ℕ} {cases : List ℕ} {plain : Script} {old : FunctionBuilder R}
+    (at : StandsAt signature calls s x otherwise cases plain old) (nodes rest : List Node) (blocks : List ℕ) (new : FunctionBuilder R) : Type 0 where
   pub first : Script
   pub on : StandsOn at first new
   pub names : List Name
@@ -35,7 +35,7 @@ pub record Between {signature : SignatureShape} {calls : List AnsweredCall} {s :
   pub contained : AllByRecursion (λ (node : Node). All (Contains cases) (cases_in node.test)) rest
 
 -- Some nodes were emitted, and these are left.
-pub record Emitted (switched : SwitchedValue) (nodes rest : List Node) (old new : FunctionBuilder) (blocks : List ℕ) : Type 0 where
+pub record Emitted {R : Type 0} (switched : SwitchedValue) (nodes rest : List Node) (old new : FunctionBuilder R) (blocks : List ℕ) : Type 0 where
   pub count : ℕ
   pub counted : count + tables_in rest ≡ tables_in nodes
   pub ends : EndsBlock {A = Unit {0}} count old new done
@@ -51,14 +51,14 @@ pub record Emitted (switched : SwitchedValue) (nodes rest : List Node) (old new 
 -- STEPS -------------------------------------------------------------------------------------------------------------------
 
 -- a failure behind steps
-pub fails_then : {A : Type 0} (count : ℕ) (old mid new : FunctionBuilder) (r : Result A BuildError) (e : BuildError) → Steps old mid done → Steps {A = A} mid new (Err e) → IsErrAnd r (λ y. y ≡ e)
+pub fails_then : {A : Type 0} {R : Type 0} (count : ℕ) (old mid new : FunctionBuilder R) (r : Result A BuildError) (e : BuildError) → Steps old mid done → Steps {A = A} mid new (Err e) → IsErrAnd r (λ y. y ≡ e)
     → EndsBlock {A = A} count old new r
 fails_then {A} count old mid new (Ok a) e steps failed is = absurd is
 fails_then {A} count old mid new (Err y) e steps failed is =
     subst (λ (error : BuildError). EndsBlock {A = A} count old new (Err error)) (sym is) (ends_failed count old new e (steps_on old mid new (tt {0}) (Err e) steps failed))
 
 -- what is switched on stays, whatever block is the current one
-pub switched_stays : (old mid : FunctionBuilder) (switched : SwitchedValue) → Steps old mid done → LeavesBlocks old mid → IsSwitchedIn old switched → IsSwitchedIn mid switched
+pub switched_stays : {R : Type 0} (old mid : FunctionBuilder R) (switched : SwitchedValue) → Steps old mid done → LeavesBlocks old mid → IsSwitchedIn old switched → IsSwitchedIn mid switched
 switched_stays old mid switched steps leaves is = record {
   exists = let more = steps.grows.0 in let here = is.exists in omega (arith, more, here);
   typed = steps.types switched.val is.exists ∙ is.typed;
@@ -66,11 +66,11 @@ switched_stays old mid switched steps leaves is = record {
   otherwise = may_lead_on old mid switched.otherwise steps.grows.2 leaves is.otherwise;
 }
 
-pub all_lead : (old mid : FunctionBuilder) (blocks : List ℕ) → Steps old mid done → LeavesBlocks old mid → All (MayLead old) blocks → All (MayLead mid) blocks
+pub all_lead : {R : Type 0} (old mid : FunctionBuilder R) (blocks : List ℕ) → Steps old mid done → LeavesBlocks old mid → All (MayLead old) blocks → All (MayLead mid) blocks
 all_lead old mid blocks steps leaves lead k d inside = may_lead_on old mid (slice_index_or blocks k d) steps.grows.2 leaves (lead k d inside)
 
 -- code behind code
-pub ends_behind : (first next : ℕ) (old mid new : FunctionBuilder) → Steps old mid done → LeavesBlocks old mid → ServesMore first old mid → EndsBlock {A = Unit {0}} next mid new done
+pub ends_behind : {R : Type 0} (first next : ℕ) (old mid new : FunctionBuilder R) → Steps old mid done → LeavesBlocks old mid → ServesMore first old mid → EndsBlock {A = Unit {0}} next mid new done
     → EndsBlock {A = Unit {0}} (first + next) old new done
 ends_behind first next old mid new steps leaves tables ends = record {
   steps = steps_on old mid new (tt {0}) done steps ends.steps;
@@ -113,7 +113,7 @@ entered_named P (name ∷ names) (block ∷ blocks) (suc k) d zip inside = enter
 
 -- THE NEXT NODE -----------------------------------------------------------------------------------------------------------
 
-module _ (switched : SwitchedValue) (nodes rest : List Node) (node : Node) (old new : FunctionBuilder) (blocks : List ℕ) (state : Emitted switched nodes (node ∷ rest) old new blocks) where
+module _ {R : Type 0} (switched : SwitchedValue) (nodes rest : List Node) (node : Node) (old new : FunctionBuilder R) (blocks : List ℕ) (state : Emitted switched nodes (node ∷ rest) old new blocks) where
   -- it has its block
   waits_next : Waits (length old.func.now.blocks) (suc (length blocks)) new blocks (node.number ∷ state.order.0)
   waits_next = subst (Waits (length old.func.now.blocks) (suc (length blocks)) new blocks) state.order.1 state.waits
@@ -125,7 +125,7 @@ module _ (switched : SwitchedValue) (nodes rest : List Node) (node : Node) (old 
   behind_next = waits_next.behind (node.number - 1) 0 ready_next.inside
 
   -- its block was entered
-  module _ (mid : FunctionBuilder) (steps : Steps new mid done) (entered : IsEntered (block_at blocks node.number) new mid) where
+  module _ (mid : FunctionBuilder R) (steps : Steps new mid done) (entered : IsEntered (block_at blocks node.number) new mid) where
     pub steps_entered : Steps old mid done
     steps_entered = steps_on old new mid (tt {0}) done state.ends.steps steps
 
@@ -137,7 +137,7 @@ module _ (switched : SwitchedValue) (nodes rest : List Node) (node : Node) (old 
     }
 
     -- and its test was emitted
-    module _ (last : FunctionBuilder) (after : List ℕ) (ends : EndsBlock {A = Unit {0}} (tables_of node.test) mid last done) (adds : AddsBlocks (length (named_by node.test)) mid last blocks after)
+    module _ (last : FunctionBuilder R) (after : List ℕ) (ends : EndsBlock {A = Unit {0}} (tables_of node.test) mid last done) (adds : AddsBlocks (length (named_by node.test)) mid last blocks after)
         (enters : MakesEntry (block_at blocks node.number) new mid done) (makes : MakesTest switched node.test mid last blocks after done) where
       between_on : {signature : SignatureShape} {calls : List AnsweredCall} {s : Switched} {cases : List ℕ} {plain : Script} (at : StandsAt signature calls s switched.val switched.otherwise cases plain old)
           → Between at nodes (node ∷ rest) blocks new → Between at nodes rest after last
@@ -200,7 +200,7 @@ module _ (switched : SwitchedValue) (nodes rest : List Node) (node : Node) (old 
               apart blocks n node.number waits_next.rising less ready.some ready_next.inside (sym (some_same (block_at blocks node.number) (block_at blocks n) (sym entered.position ∙ here)))
 
 -- the next node of a list stands first in what is left
-pub at_next : (switched : SwitchedValue) (nodes items : List Node) (old new : FunctionBuilder) (blocks : List ℕ) (j : ℕ) (node d : Node) → node ≡ slice_index_or items j d → j < length items
+pub at_next : {R : Type 0} (switched : SwitchedValue) (nodes items : List Node) (old new : FunctionBuilder R) (blocks : List ℕ) (j : ℕ) (node d : Node) → node ≡ slice_index_or items j d → j < length items
     → Emitted switched nodes (drop j items) old new blocks → Emitted switched nodes (node ∷ drop (suc j) items) old new blocks
 at_next switched nodes items old new blocks j node d is inside state =
     subst (λ (rest : List Node). Emitted switched nodes rest old new blocks) (drop-cons items j d inside ∙ ap (λ (n : Node). n ∷ drop (suc j) items) (sym is)) state
@@ -210,7 +210,7 @@ block_is : (blocks : List ℕ) (number block : ℕ) → block ≡ slice_index_or
 block_is blocks number block is inside = get_or_default blocks (number - 1) 0 block inside ∙ sym is
 
 -- the same where the node is read by its place
-module _ (switched : SwitchedValue) (nodes items : List Node) (old new : FunctionBuilder) (blocks : List ℕ) (j : ℕ) (node d : Node) (is : node ≡ slice_index_or items j d) (inside : j < length items)
+module _ {R : Type 0} (switched : SwitchedValue) (nodes items : List Node) (old new : FunctionBuilder R) (blocks : List ℕ) (j : ℕ) (node d : Node) (is : node ≡ slice_index_or items j d) (inside : j < length items)
     (state : Emitted switched nodes (drop j items) old new blocks) where
   next : Emitted switched nodes (node ∷ drop (suc j) items) old new blocks
   next = at_next switched nodes items old new blocks j node d is inside state
@@ -228,7 +228,7 @@ module _ (switched : SwitchedValue) (nodes items : List Node) (old new : Functio
     pub at_open : IsOpenFor new block
     at_open = subst (IsOpenFor new) same_block at_ready.is_open
 
-    module _ (mid : FunctionBuilder) (steps : Steps new mid done) (was_entered : IsEntered block new mid) where
+    module _ (mid : FunctionBuilder R) (steps : Steps new mid done) (was_entered : IsEntered block new mid) where
       entered : IsEntered (block_at blocks node.number) new mid
       entered = subst (λ (b : ℕ). IsEntered b new mid) (sym same_block) was_entered
 
@@ -244,7 +244,7 @@ module _ (switched : SwitchedValue) (nodes items : List Node) (old new : Functio
       pub at_leads : All (MayLead mid) (cases_in node.test)
       at_leads = all_lead old mid (cases_in node.test) at_steps leaves next.leads.0
 
-      pub at_preserved : (last : FunctionBuilder) (after : List ℕ) → EndsBlock {A = Unit {0}} (tables_of node.test) mid last done → AddsBlocks (length (named_by node.test)) mid last blocks after
+      pub at_preserved : (last : FunctionBuilder R) (after : List ℕ) → EndsBlock {A = Unit {0}} (tables_of node.test) mid last done → AddsBlocks (length (named_by node.test)) mid last blocks after
           → MakesEntry block new mid done → MakesTest switched node.test mid last blocks after done → Emitted switched nodes (drop (j + 1) items) old last after
       at_preserved last after ends adds enters makes =
           let more : suc j ≡ j + 1 = omega arith in
@@ -252,23 +252,23 @@ module _ (switched : SwitchedValue) (nodes items : List Node) (old new : Functio
           (emitted_on switched nodes (drop (suc j) items) node old new blocks next mid steps entered last after ends adds (subst (λ (b : ℕ). MakesEntry b new mid done) (sym same_block) enters) makes)
 
 -- all nodes were emitted
-pub all_emitted : (switched : SwitchedValue) (nodes items : List Node) (old new : FunctionBuilder) (blocks : List ℕ) (j : ℕ) → length items ≤ j → Emitted switched nodes (drop j items) old new blocks
+pub all_emitted : {R : Type 0} (switched : SwitchedValue) (nodes items : List Node) (old new : FunctionBuilder R) (blocks : List ℕ) (j : ℕ) → length items ≤ j → Emitted switched nodes (drop j items) old new blocks
     → Emitted switched nodes [] old new blocks
 all_emitted switched nodes items old new blocks j behind state =
     subst (λ (rest : List Node). Emitted switched nodes rest old new blocks) (drop_of_length-le items behind) state
 
-pub ends_all : (switched : SwitchedValue) (nodes : List Node) (old new : FunctionBuilder) (blocks : List ℕ) → Emitted switched nodes [] old new blocks → EndsBlock {A = Unit {0}} (tables_in nodes) old new done
+pub ends_all : {R : Type 0} (switched : SwitchedValue) (nodes : List Node) (old new : FunctionBuilder R) (blocks : List ℕ) → Emitted switched nodes [] old new blocks → EndsBlock {A = Unit {0}} (tables_in nodes) old new done
 ends_all switched nodes old new blocks state =
     subst (λ (count : ℕ). EndsBlock {A = Unit {0}} count old new done) (let same = state.counted in omega (arith, same)) state.ends
 
-pub made_all : (switched : SwitchedValue) (nodes : List Node) (old new : FunctionBuilder) (blocks : List ℕ) → Emitted switched nodes [] old new blocks → MakesNodes switched nodes old new done
+pub made_all : {R : Type 0} (switched : SwitchedValue) (nodes : List Node) (old new : FunctionBuilder R) (blocks : List ℕ) → Emitted switched nodes [] old new blocks → MakesNodes switched nodes old new done
 made_all switched nodes old new blocks state = λ signature calls s cases plain at contained.
     let between = state.made signature calls s cases plain at contained in
     subst (λ (script : Script). StandsOn at script new) (sym (between.calls_are ∙ append-nil between.first)) between.on
 
 -- THE FIRST NODE ----------------------------------------------------------------------------------------------------------
 
-module _ (switched : SwitchedValue) (rest : List Node) (node : Node) (old last : FunctionBuilder) (after : List ℕ) (order : AreInOrder (0 ∷ []) 1 (node ∷ rest))
+module _ {R : Type 0} (switched : SwitchedValue) (rest : List Node) (node : Node) (old last : FunctionBuilder R) (after : List ℕ) (order : AreInOrder (0 ∷ []) 1 (node ∷ rest))
     (leads : AllByRecursion (λ (node : Node). All (MayLead old) (cases_in node.test)) (node ∷ rest)) (filled : AllByRecursion (λ (node : Node). HasItsBlock node.test) (node ∷ rest))
     (ends : EndsBlock {A = Unit {0}} (tables_of node.test) old last done) (adds : AddsBlocks (length (named_by node.test)) old last [] after) (makes : MakesTest switched node.test old last [] after done) where
   number_is : node.number ≡ 0
@@ -316,7 +316,7 @@ abbrev pub behind_first : List Node → List Node
 behind_first nodes = take (length nodes - 1) (drop 1 nodes)
 
 -- the first node was emitted
-pub emitted_start : (switched : SwitchedValue) (nodes : List Node) (node d : Node) (old last : FunctionBuilder) (before after : List ℕ) → node ≡ slice_index_or nodes 0 d → before ≡ [] → AreInOrder (0 ∷ []) 1 nodes
+pub emitted_start : {R : Type 0} (switched : SwitchedValue) (nodes : List Node) (node d : Node) (old last : FunctionBuilder R) (before after : List ℕ) → node ≡ slice_index_or nodes 0 d → before ≡ [] → AreInOrder (0 ∷ []) 1 nodes
     → AllByRecursion (λ (node : Node). All (MayLead old) (cases_in node.test)) nodes → AllByRecursion (λ (node : Node). HasItsBlock node.test) nodes
     → EndsBlock {A = Unit {0}} (tables_of node.test) old last done → AddsBlocks (length (named_by node.test)) old last before after → MakesTest switched node.test old last before after done
     → Emitted switched nodes (behind_first nodes) old last after

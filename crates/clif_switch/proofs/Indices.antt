@@ -32,8 +32,8 @@ use Rattle.clif_switch.proofs.Steps.{leaves_on, steps_on}
 use Rattle.clif_switch.proofs.Values.{done}
 
 -- arithmetic on a named value and the constant of a number that isn't composed
-pub small_made : (reads : LedgerIsReadByNumber) (asks : RequestsAskForTheirShapes) {signature : SignatureShape} {calls : List AnsweredCall} {s : Switched} {x otherwise : ℕ} {cases : List ℕ} {plain : Script} {old : FunctionBuilder}
-    (at : StandsAt signature calls s x otherwise cases plain old) (new : FunctionBuilder) (arithmetic : Arithmetic) (shape : ℕ → ℕ → InstructionData) → StandsBehind arithmetic shape → (name : Name) (y number place : ℕ) (imm : ℤ) (answer : Result ℕ BuildError)
+pub small_made : {R : Type 0} (reads : LedgerIsReadByNumber) (asks : RequestsAskForTheirShapes) {signature : SignatureShape} {calls : List AnsweredCall} {s : Switched} {x otherwise : ℕ} {cases : List ℕ} {plain : Script} {old : FunctionBuilder R}
+    (at : StandsAt signature calls s x otherwise cases plain old) (new : FunctionBuilder R) (arithmetic : Arithmetic) (shape : ℕ → ℕ → InstructionData) → StandsBehind R arithmetic shape → (name : Name) (y number place : ℕ) (imm : ℤ) (answer : Result ℕ BuildError)
     → next_place calls plain ≡ place → signed_64 number ≡ imm → is_composed s.ty number ≡ false → NamesValue (calls ++ at.added) name y → type_in old y ≡ s.ty → BuildsWithConstant BuildsValue BuildsLike (shape y) (type_in old y) imm y old new answer
     → IfOk answer (NamesAnswer at (map building (with_number arithmetic s.ty number place name)) new (with_number_name s.ty number place))
 small_made reads asks at new arithmetic shape law name y number place imm (Err e) here is simple names same builds = tt
@@ -65,7 +65,7 @@ small_made reads asks {calls = calls} {s = s} {plain = plain} at new arithmetic 
 
 -- INDICES -----------------------------------------------------------------------------------------------------------------
 
-module _ {signature : SignatureShape} {calls : List AnsweredCall} {s : Switched} {x otherwise : ℕ} {cases : List ℕ} {plain : Script} {old : FunctionBuilder}
+module _ {R : Type 0} {signature : SignatureShape} {calls : List AnsweredCall} {s : Switched} {x otherwise : ℕ} {cases : List ℕ} {plain : Script} {old : FunctionBuilder R}
     (at : StandsAt signature calls s x otherwise cases plain old) where
   abbrev place : ℕ
   place = next_place calls plain
@@ -103,7 +103,7 @@ module _ {signature : SignatureShape} {calls : List AnsweredCall} {s : Switched}
       ap (λ (b : Bool). if b then y else answer_of (place + (length (index_calls s place y) - 1)) 1) other
       ∙ ap (λ (script : Script). answer_of (place + (length script - 1)) 1) (wide_calls y wide) ∙ ap (λ (p : ℕ). answer_of p 1) (last_is (before y) (narrowed y))
 
-  pub wide_made : (reads : LedgerIsReadByNumber) (asks : RequestsAskForTheirShapes) (mid new : FunctionBuilder) (y : Name) (operand : ℕ) (answer : Result ℕ BuildError) → nat_lt 32 (bits_of s.ty) ≡ true → (bits_of s.ty == 32) ≡ false
+  pub wide_made : (reads : LedgerIsReadByNumber) (asks : RequestsAskForTheirShapes) (mid new : FunctionBuilder R) (y : Name) (operand : ℕ) (answer : Result ℕ BuildError) → nat_lt 32 (bits_of s.ty) ≡ true → (bits_of s.ty == 32) ≡ false
       → (on : StandsOn at (before y) mid) → NamesValue (calls ++ on.later.added) y operand → BuildsValue mid new (shapes.convert Ireduce operand) i32 answer
       → IfOk answer (NamesAnswer at (index_calls s place y) new (index_name s place y))
   wide_made reads asks mid new y operand (Err e) wide other on names builds = tt
@@ -119,7 +119,7 @@ module _ {signature : SignatureShape} {calls : List AnsweredCall} {s : Switched}
       else (if nat_lt (bits_of s.ty) 32 then building (computing (Convert Uextend) i32 (y ∷ [])) ∷ [] else [])) wide
       ∙ ap (λ (b : Bool). if b then building (computing (Convert Uextend) i32 (y ∷ [])) ∷ [] else []) narrow
 
-  pub narrow_made : (reads : LedgerIsReadByNumber) (asks : RequestsAskForTheirShapes) (new : FunctionBuilder) (y : Name) (operand : ℕ) (answer : Result ℕ BuildError) → nat_lt 32 (bits_of s.ty) ≡ false → nat_lt (bits_of s.ty) 32 ≡ true
+  pub narrow_made : (reads : LedgerIsReadByNumber) (asks : RequestsAskForTheirShapes) (new : FunctionBuilder R) (y : Name) (operand : ℕ) (answer : Result ℕ BuildError) → nat_lt 32 (bits_of s.ty) ≡ false → nat_lt (bits_of s.ty) 32 ≡ true
       → (bits_of s.ty == 32) ≡ false → NamesValue (calls ++ at.added) y operand → BuildsValue old new (shapes.convert Uextend operand) i32 answer
       → IfOk answer (NamesAnswer at (index_calls s place y) new (index_name s place y))
   narrow_made reads asks new y operand (Err e) wide narrow other names builds = tt
@@ -147,14 +147,14 @@ module _ {signature : SignatureShape} {calls : List AnsweredCall} {s : Switched}
 -- WHERE A BLOCK WAS ENTERED ------------------------------------------------------------------------------------------------
 
 -- behind code that ends in a block, another one is entered that is new
-pub leaves_entered : (old mid new : FunctionBuilder) (block : ℕ) → LeavesBlocks old mid → IsEntered block mid new → length old.func.now.blocks ≤ block → LeavesBlocks old new
+pub leaves_entered : {R : Type 0} (old mid new : FunctionBuilder R) (block : ℕ) → LeavesBlocks old mid → IsEntered block mid new → length old.func.now.blocks ≤ block → LeavesBlocks old new
 leaves_entered old mid new block leaves entered later = record {
   seals = λ b inside. entered.seals b (λ is. omega (arith, is, inside, later)) ∙ leaves.seals b inside;
   fills = λ b inside other filled. leaves.fills b inside other (entered.fills b filled);
   position = λ b inside at. let same = some_same block b (sym entered.position ∙ at) in absurd (omega (arith, same, inside, later));
 }
 
-pub gives_behind : (old mid new : FunctionBuilder) (held : «Type») (answer : Result ℕ BuildError) → Steps old mid done → LeavesBlocks old mid → mid.func.now.tables.jump_tables ≡ old.func.now.tables.jump_tables
+pub gives_behind : {R : Type 0} (old mid new : FunctionBuilder R) (held : «Type») (answer : Result ℕ BuildError) → Steps old mid done → LeavesBlocks old mid → mid.func.now.tables.jump_tables ≡ old.func.now.tables.jump_tables
     → GivesValue held mid new answer → GivesValue held old new answer
 gives_behind old mid new held (Ok v) steps leaves tables gives = record {
   steps = steps_on old mid new (tt {0}) (Ok v) steps gives.steps;

@@ -20,10 +20,10 @@ use Rattle.clif_switch_calls.specs.SwitchCalls.{Switched}
 use Rattle.clif_switch.specs.Emission.{NamesAnswer, StandsAt, StandsOn, next_place}
 use Rattle.clif_switch.proofs.Names.{place_is, stands_behind}
 
-module _ (reads : LedgerIsReadByNumber) {signature : SignatureShape} {calls : List AnsweredCall} {s : Switched} {x otherwise : ℕ} {cases : List ℕ} {plain : Script} {old : FunctionBuilder}
+module _ {R : Type 0} (reads : LedgerIsReadByNumber) {signature : SignatureShape} {calls : List AnsweredCall} {s : Switched} {x otherwise : ℕ} {cases : List ℕ} {plain : Script} {old : FunctionBuilder R}
     (at : StandsAt signature calls s x otherwise cases plain old) where
   -- one value
-  pub value_built : (new : FunctionBuilder) (shape : InstructionData) (ty held answer : «Type») (value : ℕ) (arithmetic : Arithmetic) (operands : List Name) → BuildsValue old new shape ty (Ok value)
+  pub value_built : (new : FunctionBuilder R) (shape : InstructionData) (ty held answer : «Type») (value : ℕ) (arithmetic : Arithmetic) (operands : List Name) → BuildsValue old new shape ty (Ok value)
       → AsksForShape (calls ++ at.added) old.func.now (building (computing arithmetic held operands)) shape ty → emitted_types (computing arithmetic held operands) ≡ answer ∷ []
       → NamesAnswer at (building (computing arithmetic held operands) ∷ []) new (answer_of (next_place calls plain) 1) value
   unfolding stands_behind

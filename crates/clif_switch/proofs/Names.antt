@@ -22,7 +22,7 @@ as_many (call ∷ added) = ap suc (as_many added)
 pub long : {X : Type 0} (xs ys : List X) → length (xs ++ ys) ≡ length xs + length ys
 long xs ys = length-append xs ys
 
-module _ (reads : LedgerIsReadByNumber) {signature : SignatureShape} {calls : List AnsweredCall} {s : Switched} {x otherwise : ℕ} {cases : List ℕ} {plain : Script} {old : FunctionBuilder}
+module _ {R : Type 0} (reads : LedgerIsReadByNumber) {signature : SignatureShape} {calls : List AnsweredCall} {s : Switched} {x otherwise : ℕ} {cases : List ℕ} {plain : Script} {old : FunctionBuilder R}
     (at : StandsAt signature calls s x otherwise cases plain old) where
   abbrev so_far : List AnsweredCall
   so_far = calls ++ at.added
@@ -31,7 +31,7 @@ module _ (reads : LedgerIsReadByNumber) {signature : SignatureShape} {calls : Li
   pub place_is : length so_far ≡ next_place calls plain
   place_is = let one = long calls at.added in let two = as_many at.added in let three = ap length at.asked in omega (arith, one, two, three)
 
-  pub type_kept : (more : List AnsweredCall) (new : FunctionBuilder) → StandsFor signature (so_far ++ more) new → (ty : «Type») → type_of (ledger_of so_far) s.value ≡ Some ty
+  pub type_kept : (more : List AnsweredCall) (new : FunctionBuilder R) → StandsFor signature (so_far ++ more) new → (ty : «Type») → type_of (ledger_of so_far) s.value ≡ Some ty
       → type_of (ledger_of (so_far ++ more)) s.value ≡ Some ty
   type_kept more new stands ty is = by (answer_at (ledger_of so_far) s.value) refl is
     where
@@ -40,7 +40,7 @@ module _ (reads : LedgerIsReadByNumber) {signature : SignatureShape} {calls : Li
       by (Some a) there h = ap value_answer_type (answer-stays reads so_far more old new at.stands stands s.value a there) ∙ h
 
   -- some calls more
-  unfoldable pub stands_behind : (more : List AnsweredCall) (asked : Script) (new : FunctionBuilder) → script_of more ≡ asked → StandsFor signature (so_far ++ more) new → StandsOn at asked new
+  unfoldable pub stands_behind : (more : List AnsweredCall) (asked : Script) (new : FunctionBuilder R) → script_of more ≡ asked → StandsFor signature (so_far ++ more) new → StandsOn at asked new
   stands_behind more asked new is stands = record {
     later = record {
       added = at.added ++ more;
@@ -65,8 +65,8 @@ module _ (reads : LedgerIsReadByNumber) {signature : SignatureShape} {calls : Li
       value_on name value names = subst (λ (list : List AnsweredCall). NamesValue list name value) joined (value-stays reads so_far more old new at.stands stands name value names)
 
 -- calls behind calls
-abbrev pub on_then : {signature : SignatureShape} {calls : List AnsweredCall} {s : Switched} {x otherwise : ℕ} {cases : List ℕ} {plain : Script} {old mid : FunctionBuilder}
-    (at : StandsAt signature calls s x otherwise cases plain old) (first next : Script) (new : FunctionBuilder) (on : StandsOn at first mid) → StandsOn on.later next new → StandsOn at (first ++ next) new
+abbrev pub on_then : {R : Type 0} {signature : SignatureShape} {calls : List AnsweredCall} {s : Switched} {x otherwise : ℕ} {cases : List ℕ} {plain : Script} {old mid : FunctionBuilder R}
+    (at : StandsAt signature calls s x otherwise cases plain old) (first next : Script) (new : FunctionBuilder R) (on : StandsOn at first mid) → StandsOn on.later next new → StandsOn at (first ++ next) new
 on_then {signature} {calls} {s} {x} {otherwise} {cases} {plain} {old} {mid} at first next new on behind = record {
   later = record {
     added = behind.later.added;

@@ -21,13 +21,13 @@ abbrev pub block_at : (blocks : List ℕ) (number : ℕ) → ℕ
 block_at blocks number = slice_index_or blocks (number - 1) 0
 
 -- the node with this number has its block, which is open
-pub record IsReady (b : FunctionBuilder) (blocks : List ℕ) (number : ℕ) : Type 0 where
+pub record IsReady {R : Type 0} (b : FunctionBuilder R) (blocks : List ℕ) (number : ℕ) : Type 0 where
   pub some : 0 < number
   pub inside : number - 1 < length blocks
   pub is_open : IsOpenFor b (block_at blocks number)
 
 -- blocks that were made for nodes, behind those of before, and the numbers of nodes that don't stand yet, below a bound
-pub record Waits (base bound : ℕ) (b : FunctionBuilder) (blocks waiting : List ℕ) : Type 0 where
+pub record Waits {R : Type 0} (base bound : ℕ) (b : FunctionBuilder R) (blocks waiting : List ℕ) : Type 0 where
   pub falls : Fall bound waiting
   pub ready : AllByRecursion (IsReady b blocks) waiting
   pub rising : AllPairs (λ x y. x < y) blocks
@@ -46,7 +46,7 @@ apart blocks number other rising less some inside same =
     let below : block_at blocks number < block_at blocks other = rising (number - 1) (other - 1) 0 (omega (arith, less, some)) inside in omega (arith, below, same)
 
 -- a waiting block is entered
-pub waits_entered : (base bound number : ℕ) (old mid : FunctionBuilder) (blocks waiting : List ℕ) → length old.func.now.blocks ≤ length mid.func.now.blocks → IsEntered (block_at blocks number) old mid
+pub waits_entered : {R : Type 0} (base bound number : ℕ) (old mid : FunctionBuilder R) (blocks waiting : List ℕ) → length old.func.now.blocks ≤ length mid.func.now.blocks → IsEntered (block_at blocks number) old mid
     → Waits base bound old blocks (number ∷ waiting) → Waits base number mid blocks waiting
 waits_entered base bound number old mid blocks waiting more entered waits = record {
   falls = waits.falls.2;
@@ -70,7 +70,7 @@ waits_entered base bound number old mid blocks waiting more entered waits = reco
     }
 
 -- the blocks of what a test names first stand behind those of before
-module _ (new : FunctionBuilder) (blocks made : List ℕ) (are_open : All (IsOpenFor new) made) where
+module _ {R : Type 0} (new : FunctionBuilder R) (blocks made : List ℕ) (are_open : All (IsOpenFor new) made) where
   at_made : (j number : ℕ) → number ≡ suc (length blocks + j) → j < length made → IsReady new (blocks ++ made) number
   at_made j number is inside = record {
     some = omega (arith, is);
@@ -103,7 +103,7 @@ rising_append (x ∷ xs) ys seam first second below above (suc i) (suc j) d less
     i j d (omega (arith, less)) (omega (arith, inside))
 
 -- a test was emitted in the block of this number
-pub waits_tested : (base bound : ℕ) (mid new : FunctionBuilder) (blocks after waiting : List ℕ) (t : Test) → Steps mid new done → LeavesBlocks mid new → base ≤ length mid.func.now.blocks
+pub waits_tested : {R : Type 0} (base bound : ℕ) (mid new : FunctionBuilder R) (blocks after waiting : List ℕ) (t : Test) → Steps mid new done → LeavesBlocks mid new → base ≤ length mid.func.now.blocks
     → ((n : ℕ) → n < bound → IsReady mid blocks n → mid.position ≢ Some (block_at blocks n)) → bound ≤ suc (length blocks)
     → AreNumbersFrom (suc (length blocks)) (named_by t) → AddsBlocks (length (named_by t)) mid new blocks after
     → Waits base bound mid blocks waiting → Waits base (suc (length after)) new after (reverse (named_by t) ++ waiting)

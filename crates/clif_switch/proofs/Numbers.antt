@@ -38,8 +38,8 @@ pub place_after : (calls : List AnsweredCall) (plain more : Script) → next_pla
 place_after calls plain more = let one = long plain more in omega (arith, one)
 
 -- a value behind calls, with its name by its place
-unfoldable pub value_then : {signature : SignatureShape} {calls : List AnsweredCall} {s : Switched} {x otherwise : ℕ} {cases : List ℕ} {plain : Script} {old mid : FunctionBuilder}
-    (at : StandsAt signature calls s x otherwise cases plain old) (first next : Script) (new : FunctionBuilder) (p index value : ℕ) → next_place calls (plain ++ first) ≡ p → (on : StandsOn at first mid)
+unfoldable pub value_then : {R : Type 0} {signature : SignatureShape} {calls : List AnsweredCall} {s : Switched} {x otherwise : ℕ} {cases : List ℕ} {plain : Script} {old mid : FunctionBuilder R}
+    (at : StandsAt signature calls s x otherwise cases plain old) (first next : Script) (new : FunctionBuilder R) (p index value : ℕ) → next_place calls (plain ++ first) ≡ p → (on : StandsOn at first mid)
     → NamesAnswer on.later next new (answer_of (next_place calls (plain ++ first)) index) value → NamesAnswer at (first ++ next) new (answer_of p index) value
 value_then {calls = calls} {plain = plain} at first next new p index value is on behind = record {
   on = on_then at first next new on behind.on;
@@ -82,33 +82,33 @@ wide_is (type.Vector l k) imm p is = cc
 
 module _ (reads : LedgerIsReadByNumber) (asks : RequestsAskForTheirShapes) where
   -- what requests ask for
-  pub asks_here : {signature : SignatureShape} {calls : List AnsweredCall} {s : Switched} {x otherwise : ℕ} {cases : List ℕ} {plain : Script} {old : FunctionBuilder}
+  pub asks_here : {R : Type 0} {signature : SignatureShape} {calls : List AnsweredCall} {s : Switched} {x otherwise : ℕ} {cases : List ℕ} {plain : Script} {old : FunctionBuilder R}
       (at : StandsAt signature calls s x otherwise cases plain old) → AskForTheirShapes (calls ++ at.added) old.func.now
-  asks_here {calls = calls} {old = old} at = asks (calls ++ at.added) old.func.now old.ctx.now old.position at.stands.ledger
+  asks_here {calls = calls} {old = old} at = asks (calls ++ at.added) old.func.now old.ctx.now.parts old.position at.stands.ledger
 
   -- the type of a named value
-  pub held_is : {signature : SignatureShape} {calls : List AnsweredCall} {s : Switched} {x otherwise : ℕ} {cases : List ℕ} {plain : Script} {old : FunctionBuilder}
+  pub held_is : {R : Type 0} {signature : SignatureShape} {calls : List AnsweredCall} {s : Switched} {x otherwise : ℕ} {cases : List ℕ} {plain : Script} {old : FunctionBuilder R}
       (at : StandsAt signature calls s x otherwise cases plain old) (name : Name) (v : ℕ) → NamesValue (calls ++ at.added) name v
       → or_invalid (type_of (ledger_of (calls ++ at.added)) name) ≡ (value_at old.func.now v).ty
   held_is {signature = signature} {calls = calls} {old = old} at name v names = type_at reads asks signature (calls ++ at.added) old name v at.stands names
 
   -- the type that is switched on
-  pub type_is : {signature : SignatureShape} {calls : List AnsweredCall} {s : Switched} {x otherwise : ℕ} {cases : List ℕ} {plain : Script} {old : FunctionBuilder}
+  pub type_is : {R : Type 0} {signature : SignatureShape} {calls : List AnsweredCall} {s : Switched} {x otherwise : ℕ} {cases : List ℕ} {plain : Script} {old : FunctionBuilder R}
       (at : StandsAt signature calls s x otherwise cases plain old) → s.ty ≡ (value_at old.func.now x).ty
   type_is {s = s} {x = x} at = sym (ap or_invalid at.typed) ∙ held_is at s.value x at.value
 
-  module _ {signature : SignatureShape} {calls : List AnsweredCall} {s : Switched} {x otherwise : ℕ} {cases : List ℕ} {plain : Script} {old : FunctionBuilder}
+  module _ {R : Type 0} {signature : SignatureShape} {calls : List AnsweredCall} {s : Switched} {x otherwise : ℕ} {cases : List ℕ} {plain : Script} {old : FunctionBuilder R}
       (at : StandsAt signature calls s x otherwise cases plain old) where
     abbrev place : ℕ
     place = next_place calls plain
 
     -- a constant of one instruction
-    pub iconst_made : (new : FunctionBuilder) (imm : ℤ) (ty : «Type») (v : ℕ) → BuildsValue old new (shapes.unary_imm imm) ty (Ok v)
+    pub iconst_made : (new : FunctionBuilder R) (imm : ℤ) (ty : «Type») (v : ℕ) → BuildsValue old new (shapes.unary_imm imm) ty (Ok v)
         → NamesAnswer at (building (computing (Iconst imm) ty []) ∷ []) new (answer_of place 1) v
     iconst_made new imm ty v builds = value_built reads at new (shapes.unary_imm imm) ty ty ty v (Iconst imm) [] builds ((asks_here at).iconst ty imm) refl
 
     -- a constant of two
-    sextended : (mid new : FunctionBuilder) (imm : ℤ) (ty : «Type») (narrow v : ℕ) → BuildsValue old mid (shapes.unary_imm imm) i64 (Ok narrow) → BuildsValue mid new (shapes.convert Sextend narrow) ty (Ok v)
+    sextended : (mid new : FunctionBuilder R) (imm : ℤ) (ty : «Type») (narrow v : ℕ) → BuildsValue old mid (shapes.unary_imm imm) i64 (Ok narrow) → BuildsValue mid new (shapes.convert Sextend narrow) ty (Ok v)
         → NamesAnswer at (building (computing (Iconst imm) i64 []) ∷ building (computing (Convert Sextend) ty (answer_of place 1 ∷ [])) ∷ []) new (answer_of (suc place) 1) v
     sextended mid new imm ty narrow v first next =
         let one = iconst_made mid imm i64 narrow first in
@@ -117,16 +117,16 @@ module _ (reads : LedgerIsReadByNumber) (asks : RequestsAskForTheirShapes) where
         (value_built reads one.on.later new (shapes.convert Sextend narrow) ty ty ty v (Convert Sextend) (answer_of place 1 ∷ []) next
         ((asks_here one.on.later).convert Sextend ty (answer_of place 1) narrow one.named) refl)
 
-    abbrev IsConstant : «Type» → ℤ → FunctionBuilder → ℕ → Type 0
+    abbrev IsConstant : «Type» → ℤ → FunctionBuilder R → ℕ → Type 0
     IsConstant ty imm new v = NamesAnswer at (map building (constant_instructions ty imm place)) new (constant_name ty place) v
 
-    pub one_instruction : (new : FunctionBuilder) (imm : ℤ) (ty : «Type») (v : ℕ) → is_wide ty ≡ false → BuildsValue old new (shapes.unary_imm imm) ty (Ok v) → IsConstant ty imm new v
+    pub one_instruction : (new : FunctionBuilder R) (imm : ℤ) (ty : «Type») (v : ℕ) → is_wide ty ≡ false → BuildsValue old new (shapes.unary_imm imm) ty (Ok v) → IsConstant ty imm new v
     one_instruction new imm ty v narrow builds =
         let is = narrow_is ty imm place narrow in
         subst (λ (line : List (Instruction Name Name)). NamesAnswer at (map building line) new (constant_name ty place) v) (sym is.0)
         (subst (λ (name : Name). NamesAnswer at (building (computing (Iconst imm) ty []) ∷ []) new name v) (sym is.1) (iconst_made new imm ty v builds))
 
-    two_instructions : (mid new : FunctionBuilder) (imm : ℤ) (ty : «Type») (narrow v : ℕ) → is_wide ty ≡ true → BuildsValue old mid (shapes.unary_imm imm) i64 (Ok narrow)
+    two_instructions : (mid new : FunctionBuilder R) (imm : ℤ) (ty : «Type») (narrow v : ℕ) → is_wide ty ≡ true → BuildsValue old mid (shapes.unary_imm imm) i64 (Ok narrow)
         → BuildsValue mid new (shapes.convert Sextend narrow) ty (Ok v) → IsConstant ty imm new v
     two_instructions mid new imm ty narrow v wide first next =
         let is = wide_is ty imm place wide in
@@ -137,14 +137,14 @@ module _ (reads : LedgerIsReadByNumber) (asks : RequestsAskForTheirShapes) where
     no_success : {P : Type 0} (value : ℕ) (error : BuildError) → Ok value ≡ Err error → P
     no_success value error same = cc
 
-    pub constant_made : (new : FunctionBuilder) (imm : ℤ) (ty : «Type») (answer : Result ℕ BuildError) → BuildsConstant BuildsValue ty imm old new answer → IfOk answer (IsConstant ty imm new)
+    pub constant_made : (new : FunctionBuilder R) (imm : ℤ) (ty : «Type») (answer : Result ℕ BuildError) → BuildsConstant BuildsValue ty imm old new answer → IfOk answer (IsConstant ty imm new)
     constant_made new imm ty (Err e) builds = tt
     constant_made new imm ty (Ok v) (inl (wide, inl (mid, narrow, first, next))) = two_instructions mid new imm ty narrow v wide first next
     constant_made new imm ty (Ok v) (inl (wide, inr (e, first, is))) = no_success v e is
     constant_made new imm ty (Ok v) (inr (narrow, builds)) = one_instruction new imm ty v narrow builds
 
     -- a number of two halves
-    pub halves_made : (m1 m2 new : FunctionBuilder) (low high : ℤ) (l h : ℕ) (answer : Result ℕ BuildError) → BuildsValue old m1 (shapes.unary_imm low) i64 (Ok l)
+    pub halves_made : (m1 m2 new : FunctionBuilder R) (low high : ℤ) (l h : ℕ) (answer : Result ℕ BuildError) → BuildsValue old m1 (shapes.unary_imm low) i64 (Ok l)
         → BuildsValue m1 m2 (shapes.unary_imm high) i64 (Ok h) → (value_at m2.func.now l).ty ≡ i64 → BuildsValue m2 new (shapes.concat l h) (value_at m2.func.now l).ty answer
         → IfOk answer (NamesAnswer at (building (computing (Iconst low) i64 []) ∷ building (computing (Iconst high) i64 [])
         ∷ building (computing Concat i64 (answer_of place 1 ∷ answer_of (suc place) 1 ∷ [])) ∷ []) new (answer_of (suc (suc place)) 1))
@@ -166,14 +166,14 @@ module _ (reads : LedgerIsReadByNumber) (asks : RequestsAskForTheirShapes) where
         ((asks_here two.on.later).concat (answer_of place 1) (answer_of (suc place) 1) l h here two.named)) refl)
 
 -- a constant was built
-pub constant_went : (old new : FunctionBuilder) (imm : ℤ) (ty : «Type») (v : ℕ) → BuildsConstant BuildsValue ty imm old new (Ok v) → Went old new
+pub constant_went : {R : Type 0} (old new : FunctionBuilder R) (imm : ℤ) (ty : «Type») (v : ℕ) → BuildsConstant BuildsValue ty imm old new (Ok v) → Went old new
 constant_went old new imm ty v (inl (wide, inl (mid, narrow, first, next))) =
     went_then old mid new (value_went old mid (shapes.unary_imm imm) i64 narrow first) (value_went mid new (shapes.convert Sextend narrow) ty v next)
 constant_went old new imm ty v (inl (wide, inr (e, first, is))) = cc
 constant_went old new imm ty v (inr (narrow, builds)) = value_went old new (shapes.unary_imm imm) ty v builds
 
 -- what constants give
-pub constant_gives : (old new : FunctionBuilder) (imm : ℤ) (ty : «Type») (answer : Result ℕ BuildError) → BuildsConstant BuildsValue ty imm old new answer → GivesValue ty old new answer
+pub constant_gives : {R : Type 0} (old new : FunctionBuilder R) (imm : ℤ) (ty : «Type») (answer : Result ℕ BuildError) → BuildsConstant BuildsValue ty imm old new answer → GivesValue ty old new answer
 constant_gives old new imm ty answer (inl (wide, inl (mid, narrow, first, next))) =
     gives_then old mid new ty answer (value_went old mid (shapes.unary_imm imm) i64 narrow first) (gives_first mid new (shapes.convert Sextend narrow) ty answer ty refl next)
 constant_gives old new imm ty answer (inl (wide, inr (e, first, is))) =
@@ -196,8 +196,8 @@ small_plain ty number small = by (is_widest ty)
     by true = small
     by false = refl
 
-module _ {signature : SignatureShape} {calls : List AnsweredCall} {s : Switched} {x otherwise : ℕ} {cases : List ℕ} {plain : Script} {old : FunctionBuilder} (answer : Result ℕ BuildError)
-    (at : StandsAt signature calls s x otherwise cases plain old) (number : ℕ) (new : FunctionBuilder) where
+module _ {R : Type 0} {signature : SignatureShape} {calls : List AnsweredCall} {s : Switched} {x otherwise : ℕ} {cases : List ℕ} {plain : Script} {old : FunctionBuilder R} (answer : Result ℕ BuildError)
+    (at : StandsAt signature calls s x otherwise cases plain old) (number : ℕ) (new : FunctionBuilder R) where
   abbrev here : ℕ
   here = next_place calls plain
 
@@ -215,7 +215,7 @@ module _ {signature : SignatureShape} {calls : List AnsweredCall} {s : Switched}
   plain_is is made = subst HasMade (sym is) made
 
 -- what arithmetic with a constant gives, at the type of a value
-pub with_constant_gives : (old new : FunctionBuilder) (shape : ℕ → InstructionData) (imm : ℤ) (like : ℕ) (ty held : «Type») (answer : Result ℕ BuildError) → like < length old.func.now.values
+pub with_constant_gives : {R : Type 0} (old new : FunctionBuilder R) (shape : ℕ → InstructionData) (imm : ℤ) (like : ℕ) (ty held : «Type») (answer : Result ℕ BuildError) → like < length old.func.now.values
     → (value_at old.func.now like).ty ≡ ty → ((c : ℕ) → result_type_of (shape c) ty ≡ held) → BuildsWithConstant BuildsValue BuildsLike shape ty imm like old new answer → GivesValue held old new answer
 with_constant_gives old new shape imm like ty held answer here is gives (inl (mid, constant, first, next)) =
     let went = constant_went old mid imm ty constant first in

@@ -22,22 +22,22 @@ use Rattle.clif_switch.proofs.Steps.{leaves_all, leaves_on, may_lead_on, steps_o
 use Rattle.clif_switch.proofs.Values.{done}
 
 -- bare edges may be made to blocks to which branches may lead
-pub edges_lead : (b : FunctionBuilder) (items : List ℕ) → All (MayLead b) items → All (CanLead b) (map bare_to items)
+pub edges_lead : {R : Type 0} (b : FunctionBuilder R) (items : List ℕ) → All (MayLead b) items → All (CanLead b) (map bare_to items)
 edges_lead b [] may k d below = absurd (omega (arith, below))
 edges_lead b (block ∷ items) may zero d below =
     let first : MayLead b block = may 0 block (omega arith) in
     ((first.exists, λ j e inside. absurd (omega (arith, inside))), first.unsealed)
 edges_lead b (block ∷ items) may (suc k) d below = edges_lead b items (λ j e inside. may (suc j) e (omega (arith, inside))) k d (omega (arith, below))
 
-pub all_lead : (b : FunctionBuilder) (otherwise : ℕ) (items : List ℕ) → MayLead b otherwise → All (MayLead b) items → All (MayLead b) (otherwise ∷ items)
+pub all_lead : {R : Type 0} (b : FunctionBuilder R) (otherwise : ℕ) (items : List ℕ) → MayLead b otherwise → All (MayLead b) items → All (MayLead b) (otherwise ∷ items)
 all_lead b otherwise items first rest zero d below = first
 all_lead b otherwise items first rest (suc k) d below = rest k d (omega (arith, below))
 
-pub all_lead_on : (old new : FunctionBuilder) (items : List ℕ) → length old.func.now.blocks ≤ length new.func.now.blocks → LeavesBlocks old new → All (MayLead old) items → All (MayLead new) items
+pub all_lead_on : {R : Type 0} (old new : FunctionBuilder R) (items : List ℕ) → length old.func.now.blocks ≤ length new.func.now.blocks → LeavesBlocks old new → All (MayLead old) items → All (MayLead new) items
 all_lead_on old new items more leaves may k d below = may_lead_on old new _ more leaves (may k d below)
 
 -- the table that was created last may serve
-pub may_serve : (old b : FunctionBuilder) (table otherwise : ℕ) (items : List ℕ) → table ≡ length old.func.now.tables.jump_tables
+pub may_serve : {R : Type 0} (old b : FunctionBuilder R) (table otherwise : ℕ) (items : List ℕ) → table ≡ length old.func.now.tables.jump_tables
     → b.func.now.tables.jump_tables ≡ old.func.now.tables.jump_tables ++ Some (map bare_to (otherwise ∷ items)) ∷ [] → All (MayLead b) (otherwise ∷ items) → MayServe b table
 may_serve old b table otherwise items is tables may = (
   map bare_to (otherwise ∷ items),
@@ -47,12 +47,12 @@ may_serve old b table otherwise items is tables may = (
 )
 
 -- a table was created
-pub table_leaves : (edges : List BlockCall) (old new : FunctionBuilder) (table : ℕ) → MakesTable edges old new (Ok table) → LeavesBlocks old new
+pub table_leaves : {R : Type 0} (edges : List BlockCall) (old new : FunctionBuilder R) (table : ℕ) → MakesTable edges old new (Ok table) → LeavesBlocks old new
 table_leaves edges old new table makes =
     leaves_all old new (ap (λ (c : ContextState). c.ssa) makes.context) makes.position (λ b filled. subst (λ (c : ContextState). status_of c b ≡ Filled) makes.context filled)
 
 -- the branch by it ends the block
-pub table_ends : (old b between new : FunctionBuilder) (table inst v : ℕ) (edges held : List BlockCall) → Steps {A = Unit {0}} old b done → LeavesBlocks old b
+pub table_ends : {R : Type 0} (old b between new : FunctionBuilder R) (table inst v : ℕ) (edges held : List BlockCall) → Steps {A = Unit {0}} old b done → LeavesBlocks old b
     → b.func.now.tables.jump_tables ≡ old.func.now.tables.jump_tables ++ Some edges ∷ [] → table ≡ length old.func.now.tables.jump_tables → TakesJumpTable b between table (Ok held)
     → Builds between new (shapes.branch_table v held) type.Invalid (Ok inst) → EndsBlock {A = Unit {0}} 1 old new done
 table_ends old b between new table inst v edges held steps leaves tables is takes builds =
@@ -70,13 +70,13 @@ table_ends old b between new table inst v edges held steps leaves tables is take
     }
 
 -- a table, and code in a line behind it
-pub table_then : (old made new : FunctionBuilder) (edges : List BlockCall) → made.func.now.tables.jump_tables ≡ old.func.now.tables.jump_tables ++ Some edges ∷ [] → ServesMore 0 made new
+pub table_then : {R : Type 0} (old made new : FunctionBuilder R) (edges : List BlockCall) → made.func.now.tables.jump_tables ≡ old.func.now.tables.jump_tables ++ Some edges ∷ [] → ServesMore 0 made new
     → new.func.now.tables.jump_tables ≡ old.func.now.tables.jump_tables ++ Some edges ∷ []
 table_then old made new edges tables more = more ∙ append-nil made.func.now.tables.jump_tables ∙ tables
 
 -- what a branch by a table that was built is
-pub record Served (old new : FunctionBuilder) (table v inst : ℕ) : Type 0 where
-  pub between : FunctionBuilder
+pub record Served {R : Type 0} (old new : FunctionBuilder R) (table v inst : ℕ) : Type 0 where
+  pub between : FunctionBuilder R
   pub held : List BlockCall
   pub takes : TakesJumpTable old between table (Ok held)
   pub builds : Builds between new (shapes.branch_table v held) type.Invalid (Ok inst)
@@ -84,7 +84,7 @@ pub record Served (old new : FunctionBuilder) (table v inst : ℕ) : Type 0 wher
 no_ok : {P : Type 0} (a : ℕ) (e : BuildError) → Ok a ≡ Err e → P
 no_ok a e same = cc
 
-pub served : (old new : FunctionBuilder) (table v inst : ℕ) → TakesThenBuilds TakesJumpTable Builds old new (shapes.branch_table v) table type.Invalid (Ok inst) → Served old new table v inst
+pub served : {R : Type 0} (old new : FunctionBuilder R) (table v inst : ℕ) → TakesThenBuilds TakesJumpTable Builds old new (shapes.branch_table v) table type.Invalid (Ok inst) → Served old new table v inst
 served old new table v inst (inl (between, held, takes, builds)) = record { between = between; held = held; takes = takes; builds = builds }
 served old new table v inst (inr (e, takes, is)) = no_ok inst e is
 
@@ -92,7 +92,7 @@ same_some : {X : Type 0} (x y : X) → Some x ≡ Some y → x ≡ y
 same_some x y same = cc
 
 -- what it held
-pub held_is_table : (old b between : FunctionBuilder) (table : ℕ) (edges held : List BlockCall) → table ≡ length old.func.now.tables.jump_tables
+pub held_is_table : {R : Type 0} (old b between : FunctionBuilder R) (table : ℕ) (edges held : List BlockCall) → table ≡ length old.func.now.tables.jump_tables
     → b.func.now.tables.jump_tables ≡ old.func.now.tables.jump_tables ++ Some edges ∷ [] → TakesJumpTable b between table (Ok held) → held ≡ edges
 held_is_table old b between table edges held is tables takes =
     same_some held edges (sym takes.held ∙ ap unserved (ap (λ (list : List (Option (List BlockCall))). slice_get list table) tables

@@ -29,7 +29,7 @@ grows_on f g h first next =
 pub types_on : (f g h : Body) → length f.values ≤ length g.values → TypesStay f g → TypesStay g h → TypesStay f h
 types_on f g h more first next v inside = next v (omega (arith, more, inside)) ∙ first v inside
 
-pub remembers_on : (x b : ℕ) (old mid new : FunctionBuilder) → RemembersIn x b old mid → RemembersIn x b mid new → RemembersIn x b old new
+pub remembers_on : {R : Type 0} (x b : ℕ) (old mid new : FunctionBuilder R) → RemembersIn x b old mid → RemembersIn x b mid new → RemembersIn x b old new
 remembers_on x b old mid new first next = record {
   recorded = λ v is. next.recorded v (first.recorded v is);
   alike = λ u v same. next.alike u v (first.alike u v same);
@@ -41,7 +41,7 @@ not_failed : {A : Type 0} (a : A) → Ok a ≡ Err Failed → ⊥
 not_failed a same = cc
 
 -- a builder behind a step that succeeded hasn't failed, nor had the one before it
-module _ {A B : Type 0} (old mid new : FunctionBuilder) (a : A) (answer : Result B BuildError) (first : Steps old mid (Ok a)) (next : Steps mid new answer) where
+module _ {A B : Type 0} {R : Type 0} (old mid new : FunctionBuilder R) (a : A) (answer : Result B BuildError) (first : Steps old mid (Ok a)) (next : Steps mid new answer) where
   sound_between : IsTrue mid.failed → ⊥
   sound_between is = let fails : mid.failed ≡ false = first.fails in let true_is : mid.failed ≡ true = is in cc
 
@@ -58,7 +58,7 @@ module _ {A B : Type 0} (old mid new : FunctionBuilder) (a : A) (answer : Result
 
   pub steps_on : Steps old new answer
   steps_on = record {
-    loans = record { func = next.loans.func ∙ first.loans.func; ctx = next.loans.ctx ∙ first.loans.ctx };
+    loans = record { func = next.loans.func ∙ first.loans.func; ctx = next.loans.ctx ∙ first.loans.ctx; region = next.loans.region ∙ first.loans.region };
     srcloc = next.srcloc ∙ first.srcloc;
     failed = (λ is. absurd (sound_between (next.failed.0 is)), λ is. absurd (sound_before is));
     unchanged = λ is. absurd (sound_before is);
@@ -76,7 +76,7 @@ module _ {A B : Type 0} (old mid new : FunctionBuilder) (a : A) (answer : Result
   }
 
 -- another answer of the same kind
-pub steps_ok : {A B : Type 0} (old new : FunctionBuilder) (a : A) (b : B) → Steps old new (Ok a) → Steps old new (Ok b)
+pub steps_ok : {A B : Type 0} {R : Type 0} (old new : FunctionBuilder R) (a : A) (b : B) → Steps old new (Ok a) → Steps old new (Ok b)
 steps_ok old new a b steps = record {
   loans = steps.loans;
   srcloc = steps.srcloc;
@@ -94,7 +94,7 @@ steps_ok old new a b steps = record {
 err_is : {A : Type 0} (e : BuildError) (r : Result A BuildError) → r ≡ Err e → r ≡ Err Failed → e ≡ Failed
 err_is e r one two = let same = sym one ∙ two in cc
 
-pub steps_err : {A B : Type 0} (old new : FunctionBuilder) (e : BuildError) → Steps {A = A} old new (Err e) → Steps {A = B} old new (Err e)
+pub steps_err : {A B : Type 0} {R : Type 0} (old new : FunctionBuilder R) (e : BuildError) → Steps {A = A} old new (Err e) → Steps {A = B} old new (Err e)
 steps_err old new e steps = record {
   loans = steps.loans;
   srcloc = steps.srcloc;
@@ -110,9 +110,9 @@ steps_err old new e steps = record {
 }
 
 -- nothing was called
-pub steps_none : {A : Type 0} (b : FunctionBuilder) (a : A) → b.failed ≡ false → Steps b b (Ok a)
+pub steps_none : {A : Type 0} {R : Type 0} (b : FunctionBuilder R) (a : A) → b.failed ≡ false → Steps b b (Ok a)
 steps_none b a sound = record {
-  loans = record { func = refl; ctx = refl };
+  loans = record { func = refl; ctx = refl; region = refl };
   srcloc = refl;
   failed = (λ is. absurd (not_failed a is), λ is. let true_is : b.failed ≡ true = is in cc);
   unchanged = λ is. refl;
@@ -126,14 +126,14 @@ steps_none b a sound = record {
 }
 
 -- a step failed, and so did what was to be made by it
-pub steps_fails : {A B : Type 0} (old new : FunctionBuilder) (r : Result A BuildError) (e : BuildError) → Steps {A = B} old new (Err e) → IsErrAnd r (λ y. y ≡ e) → Steps {A = A} old new r
+pub steps_fails : {A B : Type 0} {R : Type 0} (old new : FunctionBuilder R) (r : Result A BuildError) (e : BuildError) → Steps {A = B} old new (Err e) → IsErrAnd r (λ y. y ≡ e) → Steps {A = A} old new r
 steps_fails old new (Ok a) e steps is = absurd is
 steps_fails {A} old new (Err y) e steps is = subst (λ (error : BuildError). Steps {A = A} old new (Err error)) (sym is) (steps_err old new e steps)
 
 -- another block becomes the current one
-positioned : (b : FunctionBuilder) (block : ℕ) → b.failed ≡ false → Steps {A = Unit {0}} b (with_position b block) (Ok tt)
+positioned : {R : Type 0} (b : FunctionBuilder R) (block : ℕ) → b.failed ≡ false → Steps {A = Unit {0}} b (with_position b block) (Ok tt)
 positioned b block sound = record {
-  loans = record { func = refl; ctx = refl };
+  loans = record { func = refl; ctx = refl; region = refl };
   srcloc = refl;
   failed = (λ is. absurd (not_failed (tt {0}) is), λ is. let true_is : b.failed ≡ true = is in cc);
   unchanged = λ is. absurd (let true_is : b.failed ≡ true = is in cc);
@@ -146,9 +146,9 @@ positioned b block sound = record {
   exceptions = refl;
 }
 
-pub entered_steps : (old mid new : FunctionBuilder) (u : Unit {0}) (block : ℕ) → Steps {A = Unit {0}} old mid (Ok u) → new ≡ with_position mid block → Steps {A = Unit {0}} old new (Ok tt)
+pub entered_steps : {R : Type 0} (old mid new : FunctionBuilder R) (u : Unit {0}) (block : ℕ) → Steps {A = Unit {0}} old mid (Ok u) → new ≡ with_position mid block → Steps {A = Unit {0}} old new (Ok tt)
 entered_steps old mid new u block first is =
-    subst (λ (b : FunctionBuilder). Steps {A = Unit {0}} old b (Ok tt)) (sym is) (steps_on old mid (with_position mid block) u (Ok tt) first (positioned mid block first.fails))
+    subst (λ (b : FunctionBuilder _). Steps {A = Unit {0}} old b (Ok tt)) (sym is) (steps_on old mid (with_position mid block) u (Ok tt) first (positioned mid block first.fails))
 
 -- ONE CALL ----------------------------------------------------------------------------------------------------------------
 
@@ -156,7 +156,7 @@ over : {A : Type 0} (P Q : Type 0) (r : Result A BuildError) → (P → Q) → O
 over P Q (Ok a) make p = make p
 over P Q (Err e) make p = tt
 
-pub call_steps : {A : Type 0} (old new : FunctionBuilder) (answer : Result A BuildError) → IsCall old new answer → new.ctx.now.variables ≡ old.ctx.now.variables
+pub call_steps : {A : Type 0} {R : Type 0} (old new : FunctionBuilder R) (answer : Result A BuildError) → IsCall old new answer → new.ctx.now.parts.variables ≡ old.ctx.now.parts.variables
     → OnOk answer (Grows old.func.now new.func.now) → ((x b : ℕ) → OnOk answer (RemembersIn x b old new)) → Steps old new answer
 call_steps old new answer call variables grows remembers = record {
   loans = call.loans;
@@ -172,7 +172,7 @@ call_steps old new answer call variables grows remembers = record {
   exceptions = over (Grows old.func.now new.func.now) (new.func.now.tables.exception_tables ≡ old.func.now.tables.exception_tables) answer (λ g. g.8) grows;
 }
 
-pub builds_steps : (old new : FunctionBuilder) (shape : InstructionData) (ty : «Type») (answer : Result ℕ BuildError) → Builds old new shape ty answer → Steps old new answer
+pub builds_steps : {R : Type 0} (old new : FunctionBuilder R) (shape : InstructionData) (ty : «Type») (answer : Result ℕ BuildError) → Builds old new shape ty answer → Steps old new answer
 builds_steps old new shape ty answer builds = record {
   loans = builds.loans;
   srcloc = builds.srcloc;
@@ -187,7 +187,7 @@ builds_steps old new shape ty answer builds = record {
   exceptions = over (Grows old.func.now new.func.now) (new.func.now.tables.exception_tables ≡ old.func.now.tables.exception_tables) answer (λ g. g.8) builds.grows;
 }
 
-pub value_steps : (old new : FunctionBuilder) (shape : InstructionData) (ty : «Type») (answer : Result ℕ BuildError) → BuildsValue old new shape ty answer → Steps old new answer
+pub value_steps : {R : Type 0} (old new : FunctionBuilder R) (shape : InstructionData) (ty : «Type») (answer : Result ℕ BuildError) → BuildsValue old new shape ty answer → Steps old new answer
 value_steps old new shape ty answer builds = record {
   loans = builds.loans;
   srcloc = builds.srcloc;
@@ -205,14 +205,14 @@ value_steps old new shape ty answer builds = record {
 -- BLOCKS ------------------------------------------------------------------------------------------------------------------
 
 -- where seals stay and no block is filled
-pub leaves_all : (old new : FunctionBuilder) → new.ctx.now.ssa ≡ old.ctx.now.ssa → new.position ≡ old.position → FillsNone old.ctx.now new.ctx.now → LeavesBlocks old new
+pub leaves_all : {R : Type 0} (old new : FunctionBuilder R) → new.ctx.now.parts.ssa ≡ old.ctx.now.parts.ssa → new.position ≡ old.position → FillsNone old.ctx.now.parts new.ctx.now.parts → LeavesBlocks old new
 leaves_all old new same here fills = record {
   seals = λ block inside. ap (λ (s : SsaState). is_yes (sealed_of s block)) same;
   fills = λ block inside other filled. fills block filled;
   position = λ block inside at. sym here ∙ at;
 }
 
-pub leaves_on : (old mid new : FunctionBuilder) → length old.func.now.blocks ≤ length mid.func.now.blocks → LeavesBlocks old mid → LeavesBlocks mid new → LeavesBlocks old new
+pub leaves_on : {R : Type 0} (old mid new : FunctionBuilder R) → length old.func.now.blocks ≤ length mid.func.now.blocks → LeavesBlocks old mid → LeavesBlocks mid new → LeavesBlocks old new
 leaves_on old mid new more first next = record {
   seals = λ block inside. next.seals block (omega (arith, more, inside)) ∙ first.seals block inside;
   fills = λ block inside other filled.
@@ -220,7 +220,7 @@ leaves_on old mid new more first next = record {
   position = λ block inside at. first.position block inside (next.position block (omega (arith, more, inside)) at);
 }
 
-pub may_lead_on : (old new : FunctionBuilder) (block : ℕ) → length old.func.now.blocks ≤ length new.func.now.blocks → LeavesBlocks old new → MayLead old block → MayLead new block
+pub may_lead_on : {R : Type 0} (old new : FunctionBuilder R) (block : ℕ) → length old.func.now.blocks ≤ length new.func.now.blocks → LeavesBlocks old new → MayLead old block → MayLead new block
 may_lead_on old new block more leaves may = record {
   exists = let inside = may.exists in omega (arith, more, inside);
   unsealed = leaves.seals block may.exists ∙ may.unsealed;

@@ -32,23 +32,23 @@ edges_asked : (targets : List Name) → script_of (map edge_of targets) ≡ edge
 edges_asked [] = refl
 edges_asked (target ∷ targets) = ap (λ (script : Script). MakeEdge (bare_edge target) ∷ script) (edges_asked targets)
 
-module _ (law : TableCallsAddNothing) (signature : SignatureShape) (b : FunctionBuilder) where
+module _ {R : Type 0} (law : TableCallsAddNothing) (signature : SignatureShape) (b : FunctionBuilder R) where
   edges_stand : (calls : List AnsweredCall) (targets : List Name) → StandsFor signature calls b → StandsFor signature (calls ++ map edge_of targets) b
   edges_stand calls [] stands = subst (λ (list : List AnsweredCall). StandsFor signature list b) (sym (append-nil calls)) stands
   edges_stand calls (target ∷ targets) stands =
       subst (λ (list : List AnsweredCall). StandsFor signature list b) (append_assoc calls (edge_of target ∷ []) (map edge_of targets))
-      (edges_stand (calls ++ edge_of target ∷ []) targets (law.edge signature calls b (bare_edge target) 0 stands))
+      (edges_stand (calls ++ edge_of target ∷ []) targets (law.edge signature calls b.func.now b.ctx.now.parts b.position (bare_edge target) 0 stands))
 
-module _ (reads : LedgerIsReadByNumber) (law : TableCallsAddNothing) {signature : SignatureShape} {calls : List AnsweredCall} {s : Switched} {x otherwise : ℕ} {cases : List ℕ} {plain : Script} {old : FunctionBuilder}
+module _ {R : Type 0} (reads : LedgerIsReadByNumber) (law : TableCallsAddNothing) {signature : SignatureShape} {calls : List AnsweredCall} {s : Switched} {x otherwise : ℕ} {cases : List ℕ} {plain : Script} {old : FunctionBuilder R}
     (at : StandsAt signature calls s x otherwise cases plain old) where
   -- edges and a table were made
-  pub table_stood : (new : FunctionBuilder) → ((sig : SignatureShape) (list : List AnsweredCall) → StandsFor sig list old → StandsFor sig list new) → (targets : List Name) (default : Name) (entries : List Name)
+  pub table_stood : (new : FunctionBuilder R) → ((sig : SignatureShape) (list : List AnsweredCall) → StandsFor sig list old → StandsFor sig list new) → (targets : List Name) (default : Name) (entries : List Name)
       → StandsOn at (edge_requests targets ++ MakeJumpTable default entries ∷ []) new
   table_stood new stays targets default entries =
       stands_behind reads at (map edge_of targets ++ table ∷ []) (edge_requests targets ++ MakeJumpTable default entries ∷ []) new
       (map-append (λ (call : AnsweredCall). call.request) (map edge_of targets) (table ∷ []) ∙ ap (λ (script : Script). script ++ MakeJumpTable default entries ∷ []) (edges_asked targets))
       (subst (λ (list : List AnsweredCall). StandsFor signature list new) (append_assoc (calls ++ at.added) (map edge_of targets) (table ∷ []))
-      (law.table signature ((calls ++ at.added) ++ map edge_of targets) new default entries number refl (edges_stand law signature new (calls ++ at.added) targets (stays signature (calls ++ at.added) at.stands))))
+      (law.table signature ((calls ++ at.added) ++ map edge_of targets) new.func.now new.ctx.now.parts new.position default entries number refl (edges_stand law signature new (calls ++ at.added) targets (stays signature (calls ++ at.added) at.stands))))
     where
       number : ℕ
       number = length (ledger_of ((calls ++ at.added) ++ map edge_of targets)).jump_tables
@@ -57,7 +57,7 @@ module _ (reads : LedgerIsReadByNumber) (law : TableCallsAddNothing) {signature 
       table = answered (MakeJumpTable default entries) (number ∷ [])
 
   -- the branch by a table was built
-  pub table_branch_made : (between new : FunctionBuilder) (name : Name) (v tables inst table : ℕ) (edges : List (Edge Name Name)) (held : List BlockCall) → NamesValue (calls ++ at.added) name v → NamesEdges (calls ++ at.added) edges held
+  pub table_branch_made : (between new : FunctionBuilder R) (name : Name) (v tables inst table : ℕ) (edges : List (Edge Name Name)) (held : List BlockCall) → NamesValue (calls ++ at.added) name v → NamesEdges (calls ++ at.added) edges held
       → ((sig : SignatureShape) (list : List AnsweredCall) → StandsFor sig list old → StandsFor sig list between) → Builds between new (shapes.branch_table v held) type.Invalid (Ok inst)
       → StandsOn at (Build (ServedBy tables ∷ []) (table_branch name edges) ∷ []) new
   table_branch_made between new name v tables inst table edges held names named stays builds =

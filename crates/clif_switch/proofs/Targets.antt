@@ -29,7 +29,7 @@ zip_push P (a ∷ xs) (b ∷ ys) x y zip last = (zip.0, zip_push P xs ys x y zip
 
 -- THE NEXT BLOCK ----------------------------------------------------------------------------------------------------------
 
-module _ {signature : SignatureShape} {calls : List AnsweredCall} {s : Switched} {x otherwise : ℕ} {cases : List ℕ} {plain : Script} {old : FunctionBuilder}
+module _ {R : Type 0} {signature : SignatureShape} {calls : List AnsweredCall} {s : Switched} {x otherwise : ℕ} {cases : List ℕ} {plain : Script} {old : FunctionBuilder R}
     (at : StandsAt signature calls s x otherwise cases plain old) (names : List Name) (before : List ℕ) (zip : AllZip (NamesBlock (calls ++ at.added)) names before) where
   -- control goes to `otherwise`
   pub next_none : (target : NamesTarget at [] old s.otherwise otherwise) × AllZip (NamesBlock (calls ++ target.on.later.added)) (names ++ []) before
@@ -40,7 +40,7 @@ module _ {signature : SignatureShape} {calls : List AnsweredCall} {s : Switched}
   )
 
   -- the names of blocks behind a new one
-  pub zip_more : (more : Script) (new : FunctionBuilder) (name : Name) (block : ℕ) (after : List ℕ) → (target : NamesTarget at more new name block) → after ≡ before ++ block ∷ []
+  pub zip_more : (more : Script) (new : FunctionBuilder R) (name : Name) (block : ℕ) (after : List ℕ) → (target : NamesTarget at more new name block) → after ≡ before ++ block ∷ []
       → AllZip (NamesBlock (calls ++ target.on.later.added)) (names ++ name ∷ []) after
   zip_more more new name block after target is =
       subst (AllZip (NamesBlock (calls ++ target.on.later.added)) (names ++ name ∷ [])) (sym is)
@@ -48,7 +48,7 @@ module _ {signature : SignatureShape} {calls : List AnsweredCall} {s : Switched}
       (zip_on (NamesBlock (calls ++ at.added)) (NamesBlock (calls ++ target.on.later.added)) target.on.blocks_stay names before zip) target.named)
 
   -- control goes to a new block
-  pub next_made : (new : FunctionBuilder) (after : List ℕ) (answer : Result ℕ BuildError) → IfOk answer (λ block. after ≡ before ++ block ∷ [])
+  pub next_made : (new : FunctionBuilder R) (after : List ℕ) (answer : Result ℕ BuildError) → IfOk answer (λ block. after ≡ before ++ block ∷ [])
       → IfOk answer (NamesTarget at (CreateBlock ∷ []) new (answer_of (next_place calls plain) 0))
       → IfOk answer (λ block. (target : NamesTarget at (CreateBlock ∷ []) new (answer_of (next_place calls plain) 0) block)
       × AllZip (NamesBlock (calls ++ target.on.later.added)) (names ++ answer_of (next_place calls plain) 0 ∷ []) after)

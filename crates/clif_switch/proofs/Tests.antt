@@ -29,7 +29,7 @@ use Rattle.clif_switch.proofs.Values.{Went}
 -- ENDS --------------------------------------------------------------------------------------------------------------------
 
 -- a block ends behind a line
-pub ends_behind : (count : ℕ) (old mid new : FunctionBuilder) (answer : Result (Unit {0}) BuildError) → Went old mid → EndsBlock {A = Unit {0}} count mid new answer → EndsBlock {A = Unit {0}} count old new answer
+pub ends_behind : {R : Type 0} (count : ℕ) (old mid new : FunctionBuilder R) (answer : Result (Unit {0}) BuildError) → Went old mid → EndsBlock {A = Unit {0}} count mid new answer → EndsBlock {A = Unit {0}} count old new answer
 ends_behind count old mid new (Ok a) went ends = record {
   steps = steps_on old mid new (tt {0}) (Ok a) went.steps ends.steps;
   leaves = leaves_on old mid new went.steps.grows.2 went.leaves ends.leaves;
@@ -42,7 +42,7 @@ ends_behind count old mid new (Err e) went ends = ends_failed count old new e (s
 -- NEW BLOCKS --------------------------------------------------------------------------------------------------------------
 
 -- blocks stay open while none of them is the current one
-pub adds_later : (count : ℕ) (old mid new : FunctionBuilder) (before after : List ℕ) → length mid.func.now.blocks ≤ length new.func.now.blocks → LeavesBlocks mid new → HasCurrent old
+pub adds_later : {R : Type 0} (count : ℕ) (old mid new : FunctionBuilder R) (before after : List ℕ) → length mid.func.now.blocks ≤ length new.func.now.blocks → LeavesBlocks mid new → HasCurrent old
     → mid.position ≡ old.position → AddsBlocks count old mid before after → AddsBlocks count old new before after
 adds_later count old mid new before after more leaves current same adds = record {
   made = adds.made;
@@ -55,13 +55,13 @@ adds_later count old mid new before after more leaves current same adds = record
 }
 
 -- behind the end of the current block
-pub adds_ended : (count tables : ℕ) (old mid new : FunctionBuilder) (before after : List ℕ) (answer : Result (Unit {0}) BuildError) → HasCurrent old → Went old mid
+pub adds_ended : {R : Type 0} (count tables : ℕ) (old mid new : FunctionBuilder R) (before after : List ℕ) (answer : Result (Unit {0}) BuildError) → HasCurrent old → Went old mid
     → EndsBlock {A = Unit {0}} tables mid new answer → AddsBlocks count old mid before after → OnOk answer (AddsBlocks count old new before after)
 adds_ended count tables old mid new before after (Ok a) current went ends adds = adds_later count old mid new before after ends.steps.grows.2 ends.leaves current went.position adds
 adds_ended count tables old mid new before after (Err e) current went ends adds = tt
 
 -- one block more
-pub adds_push : (count whole : ℕ) (old mid new : FunctionBuilder) (before after later : List ℕ) (block : ℕ) → HasCurrent old → Went old mid → Went mid new → AddsBlocks count old mid before after
+pub adds_push : {R : Type 0} (count whole : ℕ) (old mid new : FunctionBuilder R) (before after later : List ℕ) (block : ℕ) → HasCurrent old → Went old mid → Went mid new → AddsBlocks count old mid before after
     → IsOpenFor new block → block ≡ length mid.func.now.blocks → later ≡ after ++ block ∷ [] → whole ≡ suc count → AddsBlocks whole old new before later
 unfolding adds_later
 adds_push count whole old mid new before after later block current first next adds is_open number is one_more =
@@ -77,29 +77,29 @@ adds_push count whole old mid new before after later block current first next ad
 
 -- CALLS -------------------------------------------------------------------------------------------------------------------
 
-module _ {signature : SignatureShape} {calls : List AnsweredCall} {s : Switched} {x otherwise : ℕ} {cases : List ℕ} {plain : Script} {old : FunctionBuilder}
+module _ {R : Type 0} {signature : SignatureShape} {calls : List AnsweredCall} {s : Switched} {x otherwise : ℕ} {cases : List ℕ} {plain : Script} {old : FunctionBuilder R}
     (at : StandsAt signature calls s x otherwise cases plain old) where
   -- the blocks of nodes are named as before
-  pub names_after : (more : Script) (new : FunctionBuilder) (names : List Name) (blocks : List ℕ) (answer : Result (Unit {0}) BuildError) → AllZip (NamesBlock (calls ++ at.added)) names blocks
+  pub names_after : (more : Script) (new : FunctionBuilder R) (names : List Name) (blocks : List ℕ) (answer : Result (Unit {0}) BuildError) → AllZip (NamesBlock (calls ++ at.added)) names blocks
       → OnOk answer (StandsOn at more new) → OnOk answer ((on : StandsOn at more new) × AllZip (NamesBlock (calls ++ on.later.added)) names blocks)
   names_after more new names blocks (Err e) zip on = tt
   names_after more new names blocks (Ok a) zip on = (on, zip_on (NamesBlock (calls ++ at.added)) (NamesBlock (calls ++ on.later.added)) on.blocks_stay names blocks zip)
 
   -- where no block is made
-  pub same_after : (more : Script) (new : FunctionBuilder) (names : List Name) (blocks : List ℕ) (answer : Result (Unit {0}) BuildError) → AllZip (NamesBlock (calls ++ at.added)) names blocks
+  pub same_after : (more : Script) (new : FunctionBuilder R) (names : List Name) (blocks : List ℕ) (answer : Result (Unit {0}) BuildError) → AllZip (NamesBlock (calls ++ at.added)) names blocks
       → OnOk answer (StandsOn at more new) → OnOk answer ((on : StandsOn at more new) × AllZip (NamesBlock (calls ++ on.later.added)) (names ++ []) blocks)
   same_after more new names blocks answer zip on =
       names_after more new (names ++ []) blocks answer (subst (λ (list : List Name). AllZip (NamesBlock (calls ++ at.added)) list blocks) (sym (append-nil names)) zip) on
 
   -- behind other calls
-  pub names_then : (first next : Script) (mid new : FunctionBuilder) (names : List Name) (blocks : List ℕ) (answer : Result (Unit {0}) BuildError) → (on : StandsOn at first mid)
+  pub names_then : (first next : Script) (mid new : FunctionBuilder R) (names : List Name) (blocks : List ℕ) (answer : Result (Unit {0}) BuildError) → (on : StandsOn at first mid)
       → OnOk answer ((more : StandsOn on.later next new) × AllZip (NamesBlock (calls ++ more.later.added)) names blocks)
       → OnOk answer ((whole : StandsOn at (first ++ next) new) × AllZip (NamesBlock (calls ++ whole.later.added)) names blocks)
   names_then first next mid new names blocks (Err e) on more = tt
   names_then first next mid new names blocks (Ok a) on more = (on_then at first next new on more.0, more.1)
 
   -- a jump to a block
-  pub jump_made : (reads : LedgerIsReadByNumber) (asks : RequestsAskForTheirShapes) (new : FunctionBuilder) (name : Name) (block inst : ℕ) → NamesBlock (calls ++ at.added) name block
+  pub jump_made : (reads : LedgerIsReadByNumber) (asks : RequestsAskForTheirShapes) (new : FunctionBuilder R) (name : Name) (block inst : ℕ) → NamesBlock (calls ++ at.added) name block
       → Builds old new (shapes.jump block []) type.Invalid (Ok inst) → StandsOn at (jump (bare_edge name) ∷ []) new
   jump_made reads asks new name block inst named builds =
       let asked = (asks_here reads asks at).jump (bare_edge name) block [] (record { target = named; arguments = tt }) in

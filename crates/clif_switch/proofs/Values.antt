@@ -22,7 +22,7 @@ abbrev pub done : Result (Unit {0}) BuildError
 done = Ok tt
 
 -- a line was built so far
-pub record Went (old mid : FunctionBuilder) : Type 0 where
+pub record Went {R : Type 0} (old mid : FunctionBuilder R) : Type 0 where
   pub steps : Steps old mid done
   pub position : mid.position ≡ old.position
   pub leaves : LeavesBlocks old mid
@@ -32,7 +32,7 @@ pub record Went (old mid : FunctionBuilder) : Type 0 where
 pub none_more : {X : Type 0} (xs ys : List X) (x : X) → ys ≡ xs → ys ≡ xs ++ replicate 0 x
 none_more xs ys x same = same ∙ sym (append-nil xs)
 
-module _ (old new : FunctionBuilder) (shape : InstructionData) (ty : «Type») where
+module _ {R : Type 0} (old new : FunctionBuilder R) (shape : InstructionData) (ty : «Type») where
   pub value_went : (v : ℕ) → BuildsValue old new shape ty (Ok v) → Went old new
   value_went v builds = record {
     steps = steps_ok old new v (tt {0}) (value_steps old new shape ty (Ok v) builds);
@@ -55,7 +55,7 @@ module _ (old new : FunctionBuilder) (shape : InstructionData) (ty : «Type») w
   gives_first (Err e) held is builds = record { steps = value_steps old new shape ty (Err e) builds; leaves = tt; tables = tt; current = tt; exists = tt; typed = tt }
 
 -- a line behind a line
-pub went_then : (old mid new : FunctionBuilder) → Went old mid → Went mid new → Went old new
+pub went_then : {R : Type 0} (old mid new : FunctionBuilder R) → Went old mid → Went mid new → Went old new
 went_then old mid new first next = record {
   steps = steps_on old mid new (tt {0}) done first.steps next.steps;
   position = next.position ∙ first.position;
@@ -65,7 +65,7 @@ went_then old mid new first next = record {
 }
 
 -- what a line gives behind a line
-pub gives_then : (old mid new : FunctionBuilder) (held : «Type») (answer : Result ℕ BuildError) → Went old mid → GivesValue held mid new answer → GivesValue held old new answer
+pub gives_then : {R : Type 0} (old mid new : FunctionBuilder R) (held : «Type») (answer : Result ℕ BuildError) → Went old mid → GivesValue held mid new answer → GivesValue held old new answer
 gives_then old mid new held (Ok v) went gives = record {
   steps = steps_on old mid new (tt {0}) (Ok v) went.steps gives.steps;
   leaves = leaves_on old mid new went.steps.grows.2 went.leaves gives.leaves;
@@ -77,7 +77,7 @@ gives_then old mid new held (Ok v) went gives = record {
 gives_then old mid new held (Err e) went gives = record { steps = steps_on old mid new (tt {0}) (Err e) went.steps gives.steps; leaves = tt; tables = tt; current = tt; exists = tt; typed = tt }
 
 -- so far a line went, where it gave a value and stayed in its block
-pub gives_went : (old mid : FunctionBuilder) (held : «Type») (v : ℕ) → GivesValue held old mid (Ok v) → mid.position ≡ old.position → Went old mid
+pub gives_went : {R : Type 0} (old mid : FunctionBuilder R) (held : «Type») (v : ℕ) → GivesValue held old mid (Ok v) → mid.position ≡ old.position → Went old mid
 gives_went old mid held v gives here = record {
   steps = steps_ok old mid v (tt {0}) gives.steps;
   position = here;
@@ -87,12 +87,12 @@ gives_went old mid held v gives here = record {
 }
 
 -- a line failed
-pub gives_failed : (old new : FunctionBuilder) (held : «Type») (r : Result ℕ BuildError) (e y : BuildError) → Steps {A = ℕ} old new (Err e) → r ≡ Err y → y ≡ e → GivesValue held old new r
+pub gives_failed : {R : Type 0} (old new : FunctionBuilder R) (held : «Type») (r : Result ℕ BuildError) (e y : BuildError) → Steps {A = ℕ} old new (Err e) → r ≡ Err y → y ≡ e → GivesValue held old new r
 gives_failed old new held r e y steps is same =
     subst (λ (answer : Result ℕ BuildError). GivesValue held old new answer) (sym (is ∙ ap Err same)) (record { steps = steps; leaves = tt; tables = tt; current = tt; exists = tt; typed = tt })
 
 -- what is switched on stays, and so do the blocks to which branches may lead
-pub switched_on : (old mid : FunctionBuilder) (switched : SwitchedValue) → Went old mid → IsSwitchedIn old switched → IsSwitchedIn mid switched
+pub switched_on : {R : Type 0} (old mid : FunctionBuilder R) (switched : SwitchedValue) → Went old mid → IsSwitchedIn old switched → IsSwitchedIn mid switched
 switched_on old mid switched went is = record {
   exists = let more = went.steps.grows.0 in let here = is.exists in omega (arith, more, here);
   typed = went.steps.types switched.val is.exists ∙ is.typed;
@@ -101,11 +101,11 @@ switched_on old mid switched went is = record {
 }
 
 -- a failure behind a line
-pub failed_then : (old mid new : FunctionBuilder) (e : BuildError) → Went old mid → Steps {A = ℕ} mid new (Err e) → Steps {A = ℕ} old new (Err e)
+pub failed_then : {R : Type 0} (old mid new : FunctionBuilder R) (e : BuildError) → Went old mid → Steps {A = ℕ} mid new (Err e) → Steps {A = ℕ} old new (Err e)
 failed_then old mid new e went steps = steps_on old mid new (tt {0}) (Err e) went.steps steps
 
 -- where the builder stays in its block
-pub here_then : {A : Type 0} (r : Result A BuildError) (old mid new : FunctionBuilder) → mid.position ≡ old.position → OnOk r (new.position ≡ mid.position) → OnOk r (new.position ≡ old.position)
+pub here_then : {A : Type 0} {R : Type 0} (r : Result A BuildError) (old mid new : FunctionBuilder R) → mid.position ≡ old.position → OnOk r (new.position ≡ mid.position) → OnOk r (new.position ≡ old.position)
 here_then (Ok a) old mid new first next = next ∙ first
 here_then (Err e) old mid new first next = tt
 
@@ -132,5 +132,5 @@ pub halves_give : (ty held : «Type») (x y : ℕ) → ty ≡ type.Lane lane.I64
 halves_give ty held x y narrow wide = ap (λ t. result_type_of (shapes.concat x y) t) narrow ∙ sym (widest_is held wide)
 
 -- a value keeps its type
-pub type_later : (mid new : FunctionBuilder) (v : ℕ) (ty : «Type») → Went mid new → v < length mid.func.now.values → (value_at mid.func.now v).ty ≡ ty → (value_at new.func.now v).ty ≡ ty
+pub type_later : {R : Type 0} (mid new : FunctionBuilder R) (v : ℕ) (ty : «Type») → Went mid new → v < length mid.func.now.values → (value_at mid.func.now v).ty ≡ ty → (value_at new.func.now v).ty ≡ ty
 type_later mid new v ty went here is = went.steps.types v here ∙ is

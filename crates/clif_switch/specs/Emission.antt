@@ -37,26 +37,26 @@ use Rattle.clif_switch.specs.declared.emission.SwitchedValue.{SwitchedValue}
 
 -- Calls were made one behind the other, whatever the last one answers: as of one call that may fail, but that another block may be the
 -- current one.
-pub record Steps {A : Type 0} (old new : FunctionBuilder) (answer : Result A BuildError) : Type 0 where
+pub record Steps {A : Type 0} {R : Type 0} (old new : FunctionBuilder R) (answer : Result A BuildError) : Type 0 where
   pub loans : SameLoans old new
   pub srcloc : new.srcloc ≡ old.srcloc
   pub failed : (answer ≡ Err Failed) ↔ IsTrue old.failed
   pub unchanged : IsTrue old.failed → new ≡ old
   pub fails : new.failed ≡ is_err answer
-  pub looks_once : LooksOnce old.ctx.now.ssa → LooksOnce new.ctx.now.ssa
-  pub variables : new.ctx.now.variables ≡ old.ctx.now.variables
+  pub looks_once : LooksOnce old.ctx.now.parts.ssa → LooksOnce new.ctx.now.parts.ssa
+  pub variables : new.ctx.now.parts.variables ≡ old.ctx.now.parts.variables
   pub grows : OnOk answer (GrowsBesideTables old.func.now new.func.now)
   pub remembers : (x b : ℕ) → OnOk answer (RemembersIn x b old new)
   pub types : OnOk answer (TypesStay old.func.now new.func.now)
   pub exceptions : OnOk answer (new.func.now.tables.exception_tables ≡ old.func.now.tables.exception_tables)
 
 -- a block exists and isn't sealed, so that a branch may lead to it
-pub record MayLead (b : FunctionBuilder) (block : ℕ) : Type 0 where
+pub record MayLead {R : Type 0} (b : FunctionBuilder R) (block : ℕ) : Type 0 where
   pub exists : block < length b.func.now.blocks
-  pub unsealed : is_yes (sealed_of b.ctx.now.ssa block) ≡ false
+  pub unsealed : is_yes (sealed_of b.ctx.now.parts.ssa block) ≡ false
 
 -- the value is an integer of the builder's, and a branch may lead to `otherwise`
-pub record IsSwitchedIn (b : FunctionBuilder) (switched : SwitchedValue) : Type 0 where
+pub record IsSwitchedIn {R : Type 0} (b : FunctionBuilder R) (switched : SwitchedValue) : Type 0 where
   pub exists : switched.val < length b.func.now.values
   pub typed : (value_at b.func.now switched.val).ty ≡ switched.ty
   pub integer : IsTrue (is_int switched.ty)
@@ -64,17 +64,17 @@ pub record IsSwitchedIn (b : FunctionBuilder) (switched : SwitchedValue) : Type 
 
 -- No block that there was is sealed that wasn't, and none but the current one is filled that wasn't. The current block is as before, or
 -- is new.
-pub record LeavesBlocks (old new : FunctionBuilder) : Type 0 where
-  pub seals : (block : ℕ) → block < length old.func.now.blocks → is_yes (sealed_of new.ctx.now.ssa block) ≡ is_yes (sealed_of old.ctx.now.ssa block)
-  pub fills : (block : ℕ) → block < length old.func.now.blocks → old.position ≢ Some block → status_of new.ctx.now block ≡ Filled → status_of old.ctx.now block ≡ Filled
+pub record LeavesBlocks {R : Type 0} (old new : FunctionBuilder R) : Type 0 where
+  pub seals : (block : ℕ) → block < length old.func.now.blocks → is_yes (sealed_of new.ctx.now.parts.ssa block) ≡ is_yes (sealed_of old.ctx.now.parts.ssa block)
+  pub fills : (block : ℕ) → block < length old.func.now.blocks → old.position ≢ Some block → status_of new.ctx.now.parts block ≡ Filled → status_of old.ctx.now.parts block ≡ Filled
   pub position : (block : ℕ) → block < length old.func.now.blocks → new.position ≡ Some block → old.position ≡ Some block
 
 -- there are so many jump tables more, which serve an instruction
-abbrev pub ServesMore : ℕ → FunctionBuilder → FunctionBuilder → Type 0
+abbrev pub ServesMore : {R : Type 0} → ℕ → FunctionBuilder R → FunctionBuilder R → Type 0
 ServesMore count old new = new.func.now.tables.jump_tables ≡ old.func.now.tables.jump_tables ++ replicate count None
 
 -- code was built, in the current block or into a new one, which is the current one then; the answer is a value of this type
-pub record GivesValue (ty : «Type») (old new : FunctionBuilder) (answer : Result ℕ BuildError) : Type 0 where
+pub record GivesValue {R : Type 0} (ty : «Type») (old new : FunctionBuilder R) (answer : Result ℕ BuildError) : Type 0 where
   pub steps : Steps old new answer
   pub leaves : OnOk answer (LeavesBlocks old new)
   pub tables : OnOk answer (ServesMore 0 old new)
@@ -83,7 +83,7 @@ pub record GivesValue (ty : «Type») (old new : FunctionBuilder) (answer : Resu
   pub typed : IfOk answer (λ value. (value_at new.func.now value).ty ≡ ty)
 
 -- something was made, and the current block is as before
-pub record StaysHere {A : Type 0} (old new : FunctionBuilder) (answer : Result A BuildError) : Type 0 where
+pub record StaysHere {A : Type 0} {R : Type 0} (old new : FunctionBuilder R) (answer : Result A BuildError) : Type 0 where
   pub steps : Steps old new answer
   pub leaves : OnOk answer (LeavesBlocks old new)
   pub tables : OnOk answer (ServesMore 0 old new)
@@ -91,15 +91,15 @@ pub record StaysHere {A : Type 0} (old new : FunctionBuilder) (answer : Result A
   pub current : OnOk answer (HasCurrent new)
 
 -- the block was sealed and became the current one, and nothing else changed
-pub record IsEntered (block : ℕ) (old new : FunctionBuilder) : Type 0 where
-  pub seals : (other : ℕ) → other ≢ block → is_yes (sealed_of new.ctx.now.ssa other) ≡ is_yes (sealed_of old.ctx.now.ssa other)
-  pub fills : FillsNone old.ctx.now new.ctx.now
+pub record IsEntered {R : Type 0} (block : ℕ) (old new : FunctionBuilder R) : Type 0 where
+  pub seals : (other : ℕ) → other ≢ block → is_yes (sealed_of new.ctx.now.parts.ssa other) ≡ is_yes (sealed_of old.ctx.now.parts.ssa other)
+  pub fills : FillsNone old.ctx.now.parts new.ctx.now.parts
   pub position : new.position ≡ Some block
   pub tables : new.func.now.tables.jump_tables ≡ old.func.now.tables.jump_tables
   pub current : HasCurrent new
 
 -- code was built up to a terminator, in the current block or into new ones, and served so many jump tables
-pub record EndsBlock {A : Type 0} (count : ℕ) (old new : FunctionBuilder) (answer : Result A BuildError) : Type 0 where
+pub record EndsBlock {A : Type 0} {R : Type 0} (count : ℕ) (old new : FunctionBuilder R) (answer : Result A BuildError) : Type 0 where
   pub steps : Steps old new answer
   pub leaves : OnOk answer (LeavesBlocks old new)
   pub tables : OnOk answer (ServesMore count old new)
@@ -107,21 +107,21 @@ pub record EndsBlock {A : Type 0} (count : ℕ) (old new : FunctionBuilder) (ans
   pub free : OnOk answer (IsTrue (is_free new))
 
 -- a jump table of these edges is created, with the answer as its number; nothing else changes
-pub record MakesTable (edges : List BlockCall) (old new : FunctionBuilder) (answer : Result ℕ BuildError) : Type 0 where
+pub record MakesTable {R : Type 0} (edges : List BlockCall) (old new : FunctionBuilder R) (answer : Result ℕ BuildError) : Type 0 where
   pub steps : Steps old new answer
-  pub context : OnOk answer (new.ctx.now ≡ old.ctx.now)
+  pub context : OnOk answer (new.ctx.now.parts ≡ old.ctx.now.parts)
   pub position : OnOk answer (new.position ≡ old.position)
   pub function : OnOk answer (new.func.now ≡ with_tables old.func.now (with_jump_table old.func.now.tables edges))
   pub number : IfOk answer (λ table. table ≡ length old.func.now.tables.jump_tables)
   pub stands : (signature : SignatureShape) (calls : List AnsweredCall) → StandsFor signature calls old → OnOk answer (StandsFor signature calls new)
 
 -- a block that was made for a node: a branch may lead to it, and it hasn't its terminator
-pub record IsOpenFor (b : FunctionBuilder) (block : ℕ) : Type 0 where
+pub record IsOpenFor {R : Type 0} (b : FunctionBuilder R) (block : ℕ) : Type 0 where
   pub leads : MayLead b block
-  pub unfilled : status_of b.ctx.now block ≢ Filled
+  pub unfilled : status_of b.ctx.now.parts block ≢ Filled
 
 -- blocks were put behind others: they are open, and have rising numbers from that of the next block on
-pub record AddsBlocks (count : ℕ) (old new : FunctionBuilder) (before after : List ℕ) : Type 0 where
+pub record AddsBlocks {R : Type 0} (count : ℕ) (old new : FunctionBuilder R) (before after : List ℕ) : Type 0 where
   pub made : List ℕ
   pub is : after ≡ before ++ made
   pub many : length made ≡ count
@@ -179,7 +179,7 @@ check_calls s place x =
 
 -- A builder stands for these calls with some plain calls at their end, and the names of a switch lead to its value, which has its type, to
 -- the block `otherwise` and to the blocks of its cases.
-pub record StandsAt (signature : SignatureShape) (calls : List AnsweredCall) (s : Switched) (x otherwise : ℕ) (cases : List ℕ) (plain : Script) (b : FunctionBuilder) : Type 0 where
+pub record StandsAt {R : Type 0} (signature : SignatureShape) (calls : List AnsweredCall) (s : Switched) (x otherwise : ℕ) (cases : List ℕ) (plain : Script) (b : FunctionBuilder R) : Type 0 where
   pub added : List AnsweredCall
   pub asked : script_of added ≡ plain
   pub stands : StandsFor signature (calls ++ added) b
@@ -189,14 +189,14 @@ pub record StandsAt (signature : SignatureShape) (calls : List AnsweredCall) (s 
   pub cases_named : (block : ℕ) → Contains cases block → NamesBlock (calls ++ added) (s.named block) block
 
 -- More plain calls were made, and what was named before is named as it was.
-pub record StandsOn {signature : SignatureShape} {calls : List AnsweredCall} {s : Switched} {x otherwise : ℕ} {cases : List ℕ} {plain : Script} {old : FunctionBuilder}
-    (at : StandsAt signature calls s x otherwise cases plain old) (more : Script) (new : FunctionBuilder) : Type 0 where
+pub record StandsOn {R : Type 0} {signature : SignatureShape} {calls : List AnsweredCall} {s : Switched} {x otherwise : ℕ} {cases : List ℕ} {plain : Script} {old : FunctionBuilder R}
+    (at : StandsAt signature calls s x otherwise cases plain old) (more : Script) (new : FunctionBuilder R) : Type 0 where
   pub later : StandsAt signature calls s x otherwise cases (plain ++ more) new
   pub blocks_stay : (name : Name) (block : ℕ) → NamesBlock (calls ++ at.added) name block → NamesBlock (calls ++ later.added) name block
   pub values_stay : (name : Name) (value : ℕ) → NamesValue (calls ++ at.added) name value → NamesValue (calls ++ later.added) name value
 
 -- how many jump tables the calls made
-abbrev pub tables_at : {signature : SignatureShape} {calls : List AnsweredCall} {s : Switched} {x otherwise : ℕ} {cases : List ℕ} {plain : Script} {b : FunctionBuilder}
+abbrev pub tables_at : {R : Type 0} {signature : SignatureShape} {calls : List AnsweredCall} {s : Switched} {x otherwise : ℕ} {cases : List ℕ} {plain : Script} {b : FunctionBuilder R}
     → StandsAt signature calls s x otherwise cases plain b → ℕ
 tables_at {calls = calls} at = length (ledger_of (calls ++ at.added)).jump_tables
 
@@ -206,39 +206,39 @@ next_place calls plain = length calls + length plain
 
 -- Where a builder stood for calls, and names led to what is switched on and to the blocks of cases, of which these are some, it stands for the
 -- calls with others at their end, if the answer is no error.
-abbrev pub Makes : {A : Type 0} → SwitchedValue → (needs : List ℕ) → (Switched → (tables place : ℕ) → Script) → (old new : FunctionBuilder) → Result A BuildError → Type 0
+abbrev pub Makes : {A : Type 0} → {R : Type 0} → SwitchedValue → (needs : List ℕ) → (Switched → (tables place : ℕ) → Script) → (old new : FunctionBuilder R) → Result A BuildError → Type 0
 Makes {A} switched needs made old new answer =
     (signature : SignatureShape) (calls : List AnsweredCall) (s : Switched) (cases : List ℕ) (plain : Script)
     (at : StandsAt signature calls s switched.val switched.otherwise cases plain old) → All (Contains cases) needs
     → OnOk answer (StandsOn at (made s (tables_at at) (next_place calls plain)) new)
 
 -- the same, and this names the value that is answered
-pub record NamesAnswer {signature : SignatureShape} {calls : List AnsweredCall} {s : Switched} {x otherwise : ℕ} {cases : List ℕ} {plain : Script} {old : FunctionBuilder}
-    (at : StandsAt signature calls s x otherwise cases plain old) (more : Script) (new : FunctionBuilder) (name : Name) (value : ℕ) : Type 0 where
+pub record NamesAnswer {R : Type 0} {signature : SignatureShape} {calls : List AnsweredCall} {s : Switched} {x otherwise : ℕ} {cases : List ℕ} {plain : Script} {old : FunctionBuilder R}
+    (at : StandsAt signature calls s x otherwise cases plain old) (more : Script) (new : FunctionBuilder R) (name : Name) (value : ℕ) : Type 0 where
   pub on : StandsOn at more new
   pub named : NamesValue (calls ++ on.later.added) name value
 
-abbrev pub MakesValue : SwitchedValue → (Switched → (place : ℕ) → Script) → (Switched → (place : ℕ) → Name) → (old new : FunctionBuilder) → Result ℕ BuildError → Type 0
+abbrev pub MakesValue : {R : Type 0} → SwitchedValue → (Switched → (place : ℕ) → Script) → (Switched → (place : ℕ) → Name) → (old new : FunctionBuilder R) → Result ℕ BuildError → Type 0
 MakesValue switched made name old new answer =
     (signature : SignatureShape) (calls : List AnsweredCall) (s : Switched) (cases : List ℕ) (plain : Script)
     (at : StandsAt signature calls s switched.val switched.otherwise cases plain old)
     → IfOk answer (NamesAnswer at (made s (next_place calls plain)) new (name s (next_place calls plain)))
 
 -- the same, and this names the block that is answered
-pub record NamesTarget {signature : SignatureShape} {calls : List AnsweredCall} {s : Switched} {x otherwise : ℕ} {cases : List ℕ} {plain : Script} {old : FunctionBuilder}
-    (at : StandsAt signature calls s x otherwise cases plain old) (more : Script) (new : FunctionBuilder) (name : Name) (block : ℕ) : Type 0 where
+pub record NamesTarget {R : Type 0} {signature : SignatureShape} {calls : List AnsweredCall} {s : Switched} {x otherwise : ℕ} {cases : List ℕ} {plain : Script} {old : FunctionBuilder R}
+    (at : StandsAt signature calls s x otherwise cases plain old) (more : Script) (new : FunctionBuilder R) (name : Name) (block : ℕ) : Type 0 where
   pub on : StandsOn at more new
   pub named : NamesBlock (calls ++ on.later.added) name block
 
 -- the same of a new block
-abbrev pub MakesBlock : (old new : FunctionBuilder) → Result ℕ BuildError → Type 0
+abbrev pub MakesBlock : {R : Type 0} (old new : FunctionBuilder R) → Result ℕ BuildError → Type 0
 MakesBlock old new answer =
     (signature : SignatureShape) (calls : List AnsweredCall) (s : Switched) (x otherwise : ℕ) (cases : List ℕ) (plain : Script)
     (at : StandsAt signature calls s x otherwise cases plain old)
     → IfOk answer (NamesTarget at (CreateBlock ∷ []) new (answer_of (next_place calls plain) 0))
 
 -- the same of the block to which control goes next, and names lead to the blocks of nodes
-abbrev pub MakesNext : SwitchedValue → Next → (old new : FunctionBuilder) → (before after : List ℕ) → Result ℕ BuildError → Type 0
+abbrev pub MakesNext : {R : Type 0} → SwitchedValue → Next → (old new : FunctionBuilder R) → (before after : List ℕ) → Result ℕ BuildError → Type 0
 MakesNext switched next old new before after answer =
     (signature : SignatureShape) (calls : List AnsweredCall) (s : Switched) (cases : List ℕ) (plain : Script)
     (at : StandsAt signature calls s switched.val switched.otherwise cases plain old) (names : List Name) → AllZip (NamesBlock (calls ++ at.added)) names before
@@ -246,35 +246,35 @@ MakesNext switched next old new before after answer =
     × AllZip (NamesBlock (calls ++ target.on.later.added)) (names ++ other_of next (next_place calls plain)) after)
 
 -- the same of the calls that make a block the current one
-abbrev pub MakesEntry : (block : ℕ) → (old new : FunctionBuilder) → Result (Unit {0}) BuildError → Type 0
+abbrev pub MakesEntry : {R : Type 0} (block : ℕ) → (old new : FunctionBuilder R) → Result (Unit {0}) BuildError → Type 0
 MakesEntry block old new answer =
     (signature : SignatureShape) (calls : List AnsweredCall) (s : Switched) (x otherwise : ℕ) (cases : List ℕ) (plain : Script)
     (at : StandsAt signature calls s x otherwise cases plain old) (name : Name) → NamesBlock (calls ++ at.added) name block
     → OnOk answer (StandsOn at (SealBlock name ∷ SwitchToBlock name ∷ []) new)
 
 -- the same of the test of an index, behind which another block is answered
-abbrev pub MakesCheck : SwitchedValue → (operand : ℕ) → (old new : FunctionBuilder) → Result ℕ BuildError → Type 0
+abbrev pub MakesCheck : {R : Type 0} → SwitchedValue → (operand : ℕ) → (old new : FunctionBuilder R) → Result ℕ BuildError → Type 0
 MakesCheck switched operand old new answer =
     (signature : SignatureShape) (calls : List AnsweredCall) (s : Switched) (cases : List ℕ) (plain : Script)
     (at : StandsAt signature calls s switched.val switched.otherwise cases plain old) (x : Name) → NamesValue (calls ++ at.added) x operand
     → IfOk answer (NamesTarget at (check_calls s (next_place calls plain) x) new (answer_of (next_place calls plain) 0))
 
 -- the same of code on a value
-abbrev pub MakesOf : SwitchedValue → (operand : ℕ) → (Switched → (place : ℕ) (x : Name) → Script) → (Switched → (place : ℕ) (x : Name) → Name) → (old new : FunctionBuilder) → Result ℕ BuildError → Type 0
+abbrev pub MakesOf : {R : Type 0} → SwitchedValue → (operand : ℕ) → (Switched → (place : ℕ) (x : Name) → Script) → (Switched → (place : ℕ) (x : Name) → Name) → (old new : FunctionBuilder R) → Result ℕ BuildError → Type 0
 MakesOf switched operand made name old new answer =
     (signature : SignatureShape) (calls : List AnsweredCall) (s : Switched) (cases : List ℕ) (plain : Script)
     (at : StandsAt signature calls s switched.val switched.otherwise cases plain old) (x : Name) → NamesValue (calls ++ at.added) x operand
     → IfOk answer (NamesAnswer at (made s (next_place calls plain) x) new (name s (next_place calls plain) x))
 
 -- the same of a branch to two blocks
-abbrev pub MakesBranch : SwitchedValue → (taken other : ℕ) → (Switched → (place : ℕ) (taken other : Name) → Script) → (old new : FunctionBuilder) → Result (Unit {0}) BuildError → Type 0
+abbrev pub MakesBranch : {R : Type 0} → SwitchedValue → (taken other : ℕ) → (Switched → (place : ℕ) (taken other : Name) → Script) → (old new : FunctionBuilder R) → Result (Unit {0}) BuildError → Type 0
 MakesBranch switched taken other made old new answer =
     (signature : SignatureShape) (calls : List AnsweredCall) (s : Switched) (cases : List ℕ) (plain : Script)
     (at : StandsAt signature calls s switched.val switched.otherwise cases plain old) (t o : Name) → NamesBlock (calls ++ at.added) t taken → NamesBlock (calls ++ at.added) o other
     → OnOk answer (StandsOn at (made s (next_place calls plain) t o) new)
 
 -- the same of a test, and names lead to the blocks that it makes for nodes
-abbrev pub MakesTest : SwitchedValue → Test → (old new : FunctionBuilder) → (before after : List ℕ) → Result (Unit {0}) BuildError → Type 0
+abbrev pub MakesTest : {R : Type 0} → SwitchedValue → Test → (old new : FunctionBuilder R) → (before after : List ℕ) → Result (Unit {0}) BuildError → Type 0
 MakesTest switched tested old new before after answer =
     (signature : SignatureShape) (calls : List AnsweredCall) (s : Switched) (cases : List ℕ) (plain : Script)
     (at : StandsAt signature calls s switched.val switched.otherwise cases plain old) (names : List Name) → All (Contains cases) (cases_in tested) → AllZip (NamesBlock (calls ++ at.added)) names before
@@ -282,7 +282,7 @@ MakesTest switched tested old new before after answer =
     × AllZip (NamesBlock (calls ++ on.later.added)) (names ++ blocks_of tested (next_place calls plain)) after)
 
 -- the same of all nodes, of which the first stands in the current block
-abbrev pub MakesNodes : SwitchedValue → List Node → (old new : FunctionBuilder) → Result (Unit {0}) BuildError → Type 0
+abbrev pub MakesNodes : {R : Type 0} → SwitchedValue → List Node → (old new : FunctionBuilder R) → Result (Unit {0}) BuildError → Type 0
 MakesNodes switched nodes old new answer =
     (signature : SignatureShape) (calls : List AnsweredCall) (s : Switched) (cases : List ℕ) (plain : Script)
     (at : StandsAt signature calls s switched.val switched.otherwise cases plain old) → AllByRecursion (λ node. All (Contains cases) (cases_in node.test)) nodes

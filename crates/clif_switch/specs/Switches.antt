@@ -28,7 +28,7 @@ use Rattle.clif_switch_calls.specs.SwitchLaw.{case_edges, case_keys}
 use Rattle.clif_switch.specs.Emission.{LeavesBlocks, MayLead}
 
 -- A switch on the value may be built, of cases with these blocks: it is an integer, and branches may lead to all blocks.
-pub record MayEmit (cases : CaseMap) (value otherwise : ℕ) (b : FunctionBuilder) : Type 0 where
+pub record MayEmit {R : Type 0} (cases : CaseMap) (value otherwise : ℕ) (b : FunctionBuilder R) : Type 0 where
   pub current : HasCurrent b
   pub exists : value < length b.func.now.values
   pub integer : IsTrue (is_int (value_at b.func.now value).ty)
@@ -52,12 +52,12 @@ pub record NamesSwitch (calls : List AnsweredCall) (s : Switched) (cases : CaseM
   pub cases_named : (key block : ℕ) → map.get cases key ≡ Some block → NamesBlock calls (s.named block) block
 
 -- why nothing was emitted: it is refused for its cases, and the builder is as it was; or it failed
-abbrev pub IsUnemitted : CaseMap → «Type» → (old new : FunctionBuilder) → SwitchError → Type 0
+abbrev pub IsUnemitted : {R : Type 0} → CaseMap → «Type» → (old new : FunctionBuilder R) → SwitchError → Type 0
 IsUnemitted cases ty old new (switch_error.Build error) = IsTrue new.failed
 IsUnemitted cases ty old new error = IsRefusal cases ty error × (new ≡ old)
 
 -- A switch of these cases was to be emitted at the end of the current block.
-pub record Emits (cases : CaseMap) (value otherwise : ℕ) (old new : FunctionBuilder) (answer : Result (Unit {0}) SwitchError) : Type 0 where
+pub record Emits {R : Type 0} (cases : CaseMap) (value otherwise : ℕ) (old new : FunctionBuilder R) (answer : Result (Unit {0}) SwitchError) : Type 0 where
   pub loans : SameLoans old new
   pub srcloc : new.srcloc ≡ old.srcloc
   -- a builder that failed answers that, and stays as it is
@@ -68,8 +68,8 @@ pub record Emits (cases : CaseMap) (value otherwise : ℕ) (old new : FunctionBu
   pub too_wide : (max : ℕ) → (answer ≡ Err (switch_error.KeyTooWide (value_at old.func.now value).ty max))
       ↔ ((old.failed ≡ false) × IsKeyTooWide cases (value_at old.func.now value).ty max)
   pub sound : OnOk answer (new.failed ≡ false)
-  pub looks_once : LooksOnce old.ctx.now.ssa → LooksOnce new.ctx.now.ssa
-  pub variables : new.ctx.now.variables ≡ old.ctx.now.variables
+  pub looks_once : LooksOnce old.ctx.now.parts.ssa → LooksOnce new.ctx.now.parts.ssa
+  pub variables : new.ctx.now.parts.variables ≡ old.ctx.now.parts.variables
   pub grows : OnOk answer (GrowsBesideTables old.func.now new.func.now)
   -- two uses of a variable in a block agree, with a switch between them
   pub remembers : (x b : ℕ) → OnOk answer (RemembersIn x b old new)

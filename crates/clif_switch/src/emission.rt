@@ -16,6 +16,7 @@ use clif_builder::{ConstantOperands, FunctionBuilder, InstBuilder, InstBuilderBa
 use clif_constant_calls::laws::constant_operands_stand;
 use clif_ir::JumpTableData;
 use clif_ranges::{CaseRange, Next, Node, Test};
+use clif_regions::Callback;
 use clif_types::types::{I32, I64};
 use clif_types::{Block, BuildError, IntCC, JumpTable, LaneType, Type, Value};
 
@@ -296,7 +297,7 @@ fn emit_difference(
 {
     ledger_is_read_by_number();
     requests_ask_for_their_shapes();
-    constant_operands_stand();
+    constant_operands_stand::<Callback>();
     let value = switched.val;
     if first == 0 {
         return Ok(value);
@@ -354,7 +355,7 @@ fn check_index(
 {
     ledger_is_read_by_number();
     requests_ask_for_their_shapes();
-    constant_operands_stand();
+    constant_operands_stand::<Callback>();
     let block = bx.create_block()?;
     let cond = IntCC::UnsignedGreaterThan;
     let is_greater = bx.icmp_imm_s(cond, place, 0xffff_ffff)?;

@@ -76,7 +76,7 @@ LinesSay number [] old new = new ≡ old
 LinesSay number (line ∷ lines) old new = (next : Said) × LineSays number line old next × LinesSay (number + 1) lines next new
 
 -- what was found is what the lines said: the function's name and signature, the target, how outside calls end in a run and how a
--- collector moves there, and the calls with the numbers of their lines
+-- collector moves there, how a callback answers for alias regions, and the calls with the numbers of their lines
 pub record IsScriptOf (said : Said) (found : Script) : Type 0 where
   pub name : found.name ≡ name_in said.header.function
   pub signature : found.signature ≡ signature_in said.header.function
@@ -84,6 +84,7 @@ pub record IsScriptOf (said : Said) (found : Script) : Type 0 where
   pub call_conv : found.config.default_call_conv ≡ call_conv_in said.header.call_conv
   pub answers : found.answers.items ≡ said.header.answers
   pub moves : found.moves ≡ said.header.moves
+  pub region : found.region ≡ said.header.region
   pub calls : found.calls.items ≡ said.calls
   pub numbers : found.lines.items ≡ said.numbers
 

@@ -12,6 +12,7 @@ use crate::explanation::{Explanation, hint_of};
 use clif_arguments::header::{Header, is_header};
 use clif_arguments::scope::{Scope, is_name};
 use clif_calls::{Call, Moves, Name, OutsideAnswer};
+use clif_region_kinds::RegionKind;
 use clif_types::{Signature, TargetFrontendConfig, UserFuncName};
 use clif_words::cursor::Cursor;
 use clif_words::error::{Expected, Fault, LineError, ReadError};
@@ -31,6 +32,9 @@ pub struct Script {
     pub answers: Vec<OutsideAnswer>,
     /// How a collector moves in a run; `None`, where the text doesn't say it: it moves nothing.
     pub moves: Option<Moves>,
+    /// How a callback answers that is asked for the alias regions of accesses to stack slots; `None`, where the text doesn't
+    /// say it: there is no callback.
+    pub region: Option<RegionKind>,
     /// The calls, in order.
     pub calls: Vec<Call>,
     /// For each call the number of its line; lines are numbered from 1 on.
@@ -82,6 +86,7 @@ impl<'a> Reader<'a> {
     {
         let config = self.header.config();
         let moves = self.header.moves();
+        let region = self.header.region();
         let Reader {
             alloc,
             mut header,
@@ -97,6 +102,7 @@ impl<'a> Reader<'a> {
             config,
             answers,
             moves,
+            region,
             calls,
             lines,
         }
@@ -171,7 +177,7 @@ impl<'a> Reader<'a> {
     fn refused_in_header(&mut self, head: &'a str, rest: &[&'a str]) -> Option<usize> {
         let mut words = Cursor::new(rest);
         match self.header.read(self.alloc, head, &mut words) {
-            Err(LineError::Fault(Fault::NotSupported(_) | Fault::Repeated(_))) => Some(0),
+            Err(LineError::Fault(Fault::UnknownCall(_) | Fault::Repeated(_))) => Some(0),
             Err(LineError::Fault(fault)) => Some(words.refused(&fault).saturating_add(1)),
             Ok(()) | Err(LineError::Memory) => None,
         }

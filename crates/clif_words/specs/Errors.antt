@@ -60,6 +60,9 @@ expected_text expected.CallConv = codes "a convention"
 expected_text expected.PointerWidth = codes "16, 32 or 64"
 expected_text expected.ItemNumber = codes "the number of an item"
 expected_text expected.Moves = codes "add, one or events"
+expected_text expected.RegionKind = codes "refuse, intern, slot, slot_none, const or alternate"
+expected_text expected.UserId = codes "a user id of 32 bits"
+expected_text expected.Region = codes "the number of a region"
 expected_text expected.Open = codes "("
 expected_text expected.ValueOrClose = codes "a value or )"
 expected_text expected.TypeOrClose = codes "a type or )"
@@ -79,7 +82,6 @@ names_text count = if count == 0 then codes "no names" else (if count == 1 then 
 abbrev pub fault_text : Fault → List ℕ
 fault_text (fault.Expected what) = codes "expected " ++ expected_text what
 fault_text (fault.UnknownCall name) = codes "unknown call: " ++ name.now
-fault_text (fault.NotSupported name) = codes "not supported yet: " ++ name.now
 fault_text (fault.NotForCursor name) = codes "no instruction for cursor: " ++ name.now
 fault_text (fault.UnknownName name _) = codes "unknown name: " ++ name.now
 fault_text (fault.UnknownType name _) = codes "unknown type: " ++ name.now
@@ -99,7 +101,6 @@ wanted_by (fault.UnknownName name what) = what
 wanted_by (fault.UnknownType name what) = what
 wanted_by fault.NoType = expected.PointType
 wanted_by (fault.UnknownCall name) = expected.Call
-wanted_by (fault.NotSupported name) = expected.Call
 wanted_by (fault.NotForCursor name) = expected.CursorInst
 wanted_by (fault.TooManyNames count) = expected.Equals
 wanted_by (fault.Repeated name) = expected.OtherHeader

@@ -96,6 +96,12 @@ pub enum Expected {
     ItemNumber,
     /// How a collector moves.
     Moves,
+    /// How a callback answers that is asked for alias regions.
+    RegionKind,
+    /// The user id of an alias region, in 32 bits.
+    UserId,
+    /// The number of an alias region, which is below 2^32 - 1.
+    Region,
     /// `(`.
     Open,
     /// A value or `)`.
@@ -166,6 +172,9 @@ impl fmt::Display for Expected {
             Expected::PointerWidth => "16, 32 or 64",
             Expected::ItemNumber => "the number of an item",
             Expected::Moves => "add, one or events",
+            Expected::RegionKind => "refuse, intern, slot, slot_none, const or alternate",
+            Expected::UserId => "a user id of 32 bits",
+            Expected::Region => "the number of a region",
             Expected::Open => "(",
             Expected::ValueOrClose => "a value or )",
             Expected::TypeOrClose => "a type or )",
@@ -187,8 +196,6 @@ pub enum Fault<'a> {
     Expected(Expected),
     /// No call has this name.
     UnknownCall(&'a str),
-    /// The call or the header line of this name isn't understood so far.
-    NotSupported(&'a str),
     /// `cursor` stands before this, which is no instruction that it makes.
     NotForCursor(&'a str),
     /// No line before gave this name, and this is what it should name.
@@ -216,7 +223,7 @@ impl Fault<'_> {
             | Fault::UnknownName(_, expected)
             | Fault::UnknownType(_, expected) => *expected,
             Fault::NoType => Expected::PointType,
-            Fault::UnknownCall(_) | Fault::NotSupported(_) => Expected::Call,
+            Fault::UnknownCall(_) => Expected::Call,
             Fault::NotForCursor(_) => Expected::CursorInst,
             Fault::TooManyNames(_) => Expected::Equals,
             Fault::Repeated(_) => Expected::OtherHeader,
@@ -231,7 +238,6 @@ impl fmt::Display for Fault<'_> {
         match self {
             Fault::Expected(expected) => write!(f, "expected {expected}"),
             Fault::UnknownCall(name) => write!(f, "unknown call: {name}"),
-            Fault::NotSupported(name) => write!(f, "not supported yet: {name}"),
             Fault::NotForCursor(name) => write!(f, "no instruction for cursor: {name}"),
             Fault::UnknownName(name, _) => write!(f, "unknown name: {name}"),
             Fault::UnknownType(name, _) => write!(f, "unknown type: {name}"),

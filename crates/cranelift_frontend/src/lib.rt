@@ -20,6 +20,7 @@ pub use clif_memory_helpers::MemoryHelpers;
 pub use clif_opcodes::{
     Control, Demand, Opcode, OperandKind, OtherOperands, ResultKind, StackOpcode, Typing,
 };
+pub use clif_regions::RegionOf;
 pub use clif_ssa::Variable;
 pub use clif_switch::{Switch, SwitchError};
 pub use clif_tables::{ConstantData, Tables};

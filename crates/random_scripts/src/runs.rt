@@ -155,7 +155,15 @@ fn differs(one: &Ending, other: &Ending) -> bool {
 fn built(alloc: Global, calls: &[Call], signature: &Signature) -> Result<Function, Failure> {
     let mut ctx = FunctionBuilderContext::new(alloc);
     let name = UserFuncName::user(0, 0);
-    match replay(alloc, calls, name, signature.clone()?, &mut ctx, CONFIG) {
+    match replay(
+        alloc,
+        calls,
+        name,
+        signature.clone()?,
+        &mut ctx,
+        CONFIG,
+        None,
+    ) {
         Ok(func) => Ok(func),
         Err(error) => Err(Failure::NotBuilt(error)),
     }

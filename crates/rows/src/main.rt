@@ -2,6 +2,9 @@
 #![tactic(auto)]
 
 use clif_command_line::{tell_no_words, words};
+use clif_script::{RegionOf, run, tell_no_memory};
+use clif_types::{AliasRegion, AliasRegionData, AliasRegionSet, StackSlot, Type};
+use std::alloc::AllocError;
 use std::io;
 use std::process::ExitCode;
 
@@ -9,11 +12,30 @@ use std::process::ExitCode;
 const UNKNOWN: &str = "unknown row: the name isn't UTF-8";
 
 fn main(rt: HostRuntime) -> ExitCode {
-    let mut out = io::writer(&rt);
-    let mut err = rt.stderr();
     let args = match words(&rt) {
         Ok(args) => args,
-        Err(error) => return ExitCode::from(tell_no_words(&error, UNKNOWN, &mut err)),
+        Err(error) => return ExitCode::from(tell_no_words(&error, UNKNOWN, &mut rt.stderr())),
     };
-    ExitCode::from(clif_script::run(rt.alloc(), args.as_slice(), &mut out, &mut err))
+    match carry_out(&rt, args.as_slice()) {
+        Ok(status) => ExitCode::from(status),
+        Err(_) => ExitCode::from(tell_no_memory(&mut rt.stderr())),
+    }
+}
+
+// Does what the words ask for; answers the exit status. The row `regions` has the callback that answers the region of user id 7.
+fn carry_out(rt: &HostRuntime, args: &[String]) -> Result<u8, AllocError> {
+    let mut out = io::writer(rt);
+    let mut err = rt.stderr();
+    let region: RegionOf = Box::new(
+        rt.alloc(),
+        |set: &mut AliasRegionSet, _ty: Type, _slot: StackSlot, _offset: u32| -> Option<
+            AliasRegion,
+        > {
+            match set.insert(AliasRegionData { user_id: 7 }) {
+                Ok(region) => Some(region),
+                Err(_) => None,
+            }
+        },
+    )?;
+    Ok(run(rt.alloc(), args, region, &mut out, &mut err))
 }

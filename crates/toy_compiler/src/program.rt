@@ -213,7 +213,7 @@ impl CompiledFunction<'_> {
         let mut ctx = FunctionBuilderContext::new(alloc);
         let name = UserFuncName::testcase(name);
         let calls = self.calls.as_slice();
-        Ok(replay(alloc, calls, name, signature, &mut ctx, TARGET)?)
+        Ok(replay(alloc, calls, name, signature, &mut ctx, TARGET, None)?)
     }
 
     /// Why the function wasn't built, where a call was a misuse or refused: the condition that doesn't hold. It is built once
@@ -228,7 +228,9 @@ impl CompiledFunction<'_> {
         let mut ctx = FunctionBuilderContext::new(alloc);
         let mut notes = ReplayNotes::new(alloc);
         let calls = self.calls.as_slice();
-        match replay_noted(alloc, calls, name, signature, &mut ctx, TARGET, &mut notes) {
+        match replay_noted(
+            alloc, calls, name, signature, &mut ctx, TARGET, None, &mut notes,
+        ) {
             Ok(_) => None,
             Err(_) => notes.condition,
         }

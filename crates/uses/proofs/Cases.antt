@@ -10,27 +10,27 @@ use Rattle.clif_builder.specs.declared.builder.FunctionBuilder.{FunctionBuilder}
 use Rattle.clif_switch.specs.Emission.{MayLead}
 
 -- to the block of each case
-abbrev pub AllLead : CaseMap → FunctionBuilder → Type 0
+abbrev pub AllLead : {R : Type 0} → CaseMap → FunctionBuilder R → Type 0
 AllLead cases b = (key block : ℕ) → map.get cases key ≡ Some block → MayLead b block
 
-leads_either : (b : FunctionBuilder) (is_new : Bool) (kept : Option ℕ) (block found : ℕ) → MayLead b block → (kept ≡ Some found → MayLead b found)
+leads_either : {R : Type 0} (b : FunctionBuilder R) (is_new : Bool) (kept : Option ℕ) (block found : ℕ) → MayLead b block → (kept ≡ Some found → MayLead b found)
     → cond is_new (Some block) kept ≡ Some found → MayLead b found
 leads_either b true kept block found leads rest is = subst (λ (o : Option ℕ). IfSome o (MayLead b)) is leads
 leads_either b false kept block found leads rest is = rest is
 
-more_lead : (b : FunctionBuilder) (cases : CaseMap) (key block : ℕ) → AllLead cases b → MayLead b block → AllLead (map.insert cases key block) b
+more_lead : {R : Type 0} (b : FunctionBuilder R) (cases : CaseMap) (key block : ℕ) → AllLead cases b → MayLead b block → AllLead (map.insert cases key block) b
 more_lead b cases key block all leads other found is =
     leads_either b (eq_by_cmp nat_cmp other key) (map.get cases other) block found leads (all other found)
     (sym (get-insert nat_cmp_total cases key block other) ∙ is)
 
-no_case : (b : FunctionBuilder) (found : ℕ) → None ≡ Some found → MayLead b found
+no_case : {R : Type 0} (b : FunctionBuilder R) (found : ℕ) → None ≡ Some found → MayLead b found
 no_case b found e = absurd cc
 
-none_lead : (cases : CaseMap) → cases ≡ map.empty → (b : FunctionBuilder) → AllLead cases b
+none_lead : {R : Type 0} (cases : CaseMap) → cases ≡ map.empty → (b : FunctionBuilder R) → AllLead cases b
 none_lead cases none b key found is =
     no_case b found (sym (get-empty {X = ℕ} nat_cmp key) ∙ sym (ap (λ (m : CaseMap). map.get m key) none) ∙ is)
 
-pub both_lead : (b : FunctionBuilder) (first second third : CaseMap) (low high one other : ℕ) → first ≡ map.empty → second ≡ map.insert first low one → third ≡ map.insert second high other
+pub both_lead : {R : Type 0} (b : FunctionBuilder R) (first second third : CaseMap) (low high one other : ℕ) → first ≡ map.empty → second ≡ map.insert first low one → third ≡ map.insert second high other
     → MayLead b one → MayLead b other → AllLead third b
 both_lead b first second third low high one other empty more most leads leads_too =
     subst (λ (cases : CaseMap). AllLead cases b) (sym most) (more_lead b second high other

@@ -32,19 +32,19 @@ use Rattle.uses.specs.Importing.{Imports}
 -- CALLS -----------------------------------------------------------------------------------------------------------------
 
 -- what calls keep that seal no block, end none and go to none
-pub record Keeps (old new : FunctionBuilder) : Type 0 where
+pub record Keeps {R : Type 0} (old new : FunctionBuilder R) : Type 0 where
   pub grows : Grows old.func.now new.func.now
   pub types : TypesStay old.func.now new.func.now
-  pub seals : SealedStays old.ctx.now.ssa new.ctx.now.ssa
-  pub fills : FillsNone old.ctx.now new.ctx.now
-  pub variables : new.ctx.now.variables ≡ old.ctx.now.variables
+  pub seals : SealedStays old.ctx.now.parts.ssa new.ctx.now.parts.ssa
+  pub fills : FillsNone old.ctx.now.parts new.ctx.now.parts
+  pub variables : new.ctx.now.parts.variables ≡ old.ctx.now.parts.variables
   pub position : new.position ≡ old.position
 
 pub grows_then : (first middle last : Body) → Grows first middle → Grows middle last → Grows first last
 grows_then first middle last a b =
     (omega (arith, a.0, b.0), omega (arith, a.1, b.1), omega (arith, a.2, b.2), b.3 ∙ a.3, b.4 ∙ a.4, omega (arith, a.5, b.5), b.6 ∙ a.6, λ entry here. b.7 entry (a.7 entry here), b.8 ∙ a.8)
 
-pub and_then : {first middle last : FunctionBuilder} → Keeps first middle → Keeps middle last → Keeps first last
+pub and_then : {R : Type 0} {first middle last : FunctionBuilder R} → Keeps first middle → Keeps middle last → Keeps first last
 and_then {first} {middle} {last} a b = record {
   grows = grows_then first.func.now middle.func.now last.func.now a.grows b.grows;
   types = λ v here. b.types v (omega (arith, here, a.grows.0)) ∙ a.types v here;
@@ -54,30 +54,30 @@ and_then {first} {middle} {last} a b = record {
   position = b.position ∙ a.position;
 }
 
-pub called : {A : Type 0} {old new : FunctionBuilder} {answer : A} → IsCall old new (Ok answer) → Grows old.func.now new.func.now
-    → SealedStays old.ctx.now.ssa new.ctx.now.ssa → new.ctx.now.variables ≡ old.ctx.now.variables → Keeps old new
+pub called : {A : Type 0} {R : Type 0} {old new : FunctionBuilder R} {answer : A} → IsCall old new (Ok answer) → Grows old.func.now new.func.now
+    → SealedStays old.ctx.now.parts.ssa new.ctx.now.parts.ssa → new.ctx.now.parts.variables ≡ old.ctx.now.parts.variables → Keeps old new
 called call grows seals variables = record { grows = grows; types = call.types; seals = seals; fills = call.fills; variables = variables; position = call.position }
 
 -- a block is made
-pub created : {A : Type 0} {old new : FunctionBuilder} {answer : A} → IsCall old new (Ok answer) → Grows old.func.now new.func.now
-    → SameBlocks old.ctx.now.ssa new.ctx.now.ssa → new.ctx.now.variables ≡ old.ctx.now.variables → Keeps old new
+pub created : {A : Type 0} {R : Type 0} {old new : FunctionBuilder R} {answer : A} → IsCall old new (Ok answer) → Grows old.func.now new.func.now
+    → SameBlocks old.ctx.now.parts.ssa new.ctx.now.parts.ssa → new.ctx.now.parts.variables ≡ old.ctx.now.parts.variables → Keeps old new
 created call grows same variables = called call grows (λ k. ap is_yes (same k)) variables
 
 -- a call that leaves the context as it was
-pub same_context : {A : Type 0} {old new : FunctionBuilder} {answer : A} → IsCall old new (Ok answer) → Grows old.func.now new.func.now
-    → new.ctx.now ≡ old.ctx.now → Keeps old new
+pub same_context : {A : Type 0} {R : Type 0} {old new : FunctionBuilder R} {answer : A} → IsCall old new (Ok answer) → Grows old.func.now new.func.now
+    → new.ctx.now.parts ≡ old.ctx.now.parts → Keeps old new
 same_context call grows same = called call grows (λ k. ap (λ (c : ContextState). is_yes (sealed_of c.ssa k)) same) (ap (λ (c : ContextState). c.variables) same)
 
 -- an assignment
-pub assigned : {A : Type 0} {old new : FunctionBuilder} {answer : A} → IsCall old new (Ok answer) → Grows old.func.now new.func.now
-    → new.ctx.now.ssa.blocks ≡ old.ctx.now.ssa.blocks → new.ctx.now.variables ≡ old.ctx.now.variables → Keeps old new
+pub assigned : {A : Type 0} {R : Type 0} {old new : FunctionBuilder R} {answer : A} → IsCall old new (Ok answer) → Grows old.func.now new.func.now
+    → new.ctx.now.parts.ssa.blocks ≡ old.ctx.now.parts.ssa.blocks → new.ctx.now.parts.variables ≡ old.ctx.now.parts.variables → Keeps old new
 assigned call grows same variables = called call grows (λ k. rw same refl) variables
 
 -- an instruction with a result, for which the builder was lent and came back
-pub valued : {old lent built back : FunctionBuilder} {shape : InstructionData} {ty : «Type»} {value : ℕ}
+pub valued : {R : Type 0} {old lent built back : FunctionBuilder R} {shape : InstructionData} {ty : «Type»} {value : ℕ}
     → lent ≡ old → BuildsValue lent built shape ty (Ok value) → back ≡ built → Keeps old back
 valued {old} {lent} {built} {back} {shape} {ty} {value} is built_is came =
-    subst (λ (b : FunctionBuilder). Keeps b back) is (subst (λ (b : FunctionBuilder). Keeps lent b) (sym came) (record {
+    subst (λ (b : FunctionBuilder _). Keeps b back) is (subst (λ (b : FunctionBuilder _). Keeps lent b) (sym came) (record {
       grows = built_is.grows;
       types = built_is.types;
       seals = λ k. rw built_is.ssa refl;
@@ -86,18 +86,18 @@ valued {old} {lent} {built} {back} {shape} {ty} {value} is built_is came =
       position = built_is.position;
     }))
 
-unfilled_now : (lent built : FunctionBuilder) → built.position ≡ lent.position → HasCurrent built → (k : ℕ) → lent.position ≡ Some k → status_of built.ctx.now k ≢ Filled
+unfilled_now : {R : Type 0} (lent built : FunctionBuilder R) → built.position ≡ lent.position → HasCurrent built → (k : ℕ) → lent.position ≡ Some k → status_of built.ctx.now.parts k ≢ Filled
 unfilled_now lent built same current k here filled =
-    current.3 (ap (λ (block : ℕ). status_of built.ctx.now block) (other (sym current.1 ∙ same ∙ here)) ∙ filled)
+    current.3 (ap (λ (block : ℕ). status_of built.ctx.now.parts block) (other (sym current.1 ∙ same ∙ here)) ∙ filled)
   where
     other : {block : ℕ} → Some block ≡ Some k → block ≡ k
     other alike = cc
 
 -- one without, which ends no block
-pub appended : {old lent built back : FunctionBuilder} {shape : InstructionData} {ty : «Type»} {inst : ℕ}
+pub appended : {R : Type 0} {old lent built back : FunctionBuilder R} {shape : InstructionData} {ty : «Type»} {inst : ℕ}
     → lent ≡ old → Builds lent built shape ty (Ok inst) → is_terminator shape ≡ false → back ≡ built → Keeps old back
 appended {old} {lent} {built} {back} is built_is goes_on came =
-    subst (λ (b : FunctionBuilder). Keeps b back) is (subst (λ (b : FunctionBuilder). Keeps lent b) (sym came) (record {
+    subst (λ (b : FunctionBuilder _). Keeps b back) is (subst (λ (b : FunctionBuilder _). Keeps lent b) (sym came) (record {
       grows = built_is.grows;
       types = built_is.types;
       seals = built_is.seals;
@@ -107,12 +107,12 @@ appended {old} {lent} {built} {back} is built_is goes_on came =
     }))
 
 -- a variable or a value is marked
-pub marked : {old new : FunctionBuilder} {tracked : Tracked} → TracksFrom old new (Ok tt) tracked → Keeps old new
+pub marked : {R : Type 0} {old new : FunctionBuilder R} {tracked : Tracked} → TracksFrom old new (Ok tt) tracked → Keeps old new
 marked {old} {new} tracks =
     called tracks.call tracks.grows (λ k. rw tracks.context refl) (ap (λ (c : ContextState). c.variables) tracks.context)
 
 -- a function is imported
-pub imported : {old new : FunctionBuilder} → Imports old new → Keeps old new
+pub imported : {R : Type 0} {old new : FunctionBuilder R} → Imports old new → Keeps old new
 imported {old} {new} imports = record {
   grows = imports.grows;
   types = λ v here. rw imports.values refl;
@@ -123,7 +123,7 @@ imported {old} {new} imports = record {
 }
 
 -- its signature is one entry, and it another
-pub imports_both : {signature : ℕ} {first second : TableEntry} {old middle new : FunctionBuilder} (answer : Result ℕ BuildError)
+pub imports_both : {R : Type 0} {signature : ℕ} {first second : TableEntry} {old middle new : FunctionBuilder R} (answer : Result ℕ BuildError)
     → MakesEntry first old middle (Ok signature) → MakesEntry second middle new answer → HasCurrent old → OnOk answer (Imports old new)
 imports_both {old = old} {middle = middle} {new = new} (Ok function) one two current = record {
   position = two.call.position ∙ one.call.position;
@@ -135,11 +135,11 @@ imports_both {old = old} {middle = middle} {new = new} (Ok function) one two cur
 imports_both (Err error) one two current = tt
 
 -- the builder is lent
-pub lent_on : {first old lent : FunctionBuilder} → Keeps first old → lent ≡ old → Keeps first lent
-lent_on {first} kept is = subst (λ (b : FunctionBuilder). Keeps first b) (sym is) kept
+pub lent_on : {R : Type 0} {first old lent : FunctionBuilder R} → Keeps first old → lent ≡ old → Keeps first lent
+lent_on {first} kept is = subst (λ (b : FunctionBuilder _). Keeps first b) (sym is) kept
 
-pub same : {old new : FunctionBuilder} → new ≡ old → Keeps old new
-same {old} is = subst (λ (b : FunctionBuilder). Keeps old b) (sym is) (record {
+pub same : {R : Type 0} {old new : FunctionBuilder R} → new ≡ old → Keeps old new
+same {old} is = subst (λ (b : FunctionBuilder _). Keeps old b) (sym is) (record {
   grows = (omega arith, omega arith, omega arith, refl, refl, omega arith, refl, λ entry here. here, refl);
   types = λ v here. refl;
   seals = λ k. refl;
@@ -149,77 +149,77 @@ same {old} is = subst (λ (b : FunctionBuilder). Keeps old b) (sym is) (record {
 })
 
 -- what every call keeps, once the variables are declared
-pub record Carries (old new : FunctionBuilder) : Type 0 where
+pub record Carries {R : Type 0} (old new : FunctionBuilder R) : Type 0 where
   pub values : length old.func.now.values ≤ length new.func.now.values
   pub types : TypesStay old.func.now new.func.now
-  pub variables : new.ctx.now.variables ≡ old.ctx.now.variables
+  pub variables : new.ctx.now.parts.variables ≡ old.ctx.now.parts.variables
 
-pub carries_then : {first middle last : FunctionBuilder} → Carries first middle → Carries middle last → Carries first last
+pub carries_then : {R : Type 0} {first middle last : FunctionBuilder R} → Carries first middle → Carries middle last → Carries first last
 carries_then a b = record {
   values = omega (arith, a.values, b.values);
   types = λ v here. b.types v (omega (arith, here, a.values)) ∙ a.types v here;
   variables = b.variables ∙ a.variables;
 }
 
-pub carries_kept : {old new : FunctionBuilder} → Keeps old new → Carries old new
+pub carries_kept : {R : Type 0} {old new : FunctionBuilder R} → Keeps old new → Carries old new
 carries_kept kept = record { values = kept.grows.0; types = kept.types; variables = kept.variables }
 
-pub carries_called : {A : Type 0} {old new : FunctionBuilder} {answer : A} → IsCall old new (Ok answer) → Grows old.func.now new.func.now
-    → new.ctx.now.variables ≡ old.ctx.now.variables → Carries old new
+pub carries_called : {A : Type 0} {R : Type 0} {old new : FunctionBuilder R} {answer : A} → IsCall old new (Ok answer) → Grows old.func.now new.func.now
+    → new.ctx.now.parts.variables ≡ old.ctx.now.parts.variables → Carries old new
 carries_called call grows variables = record { values = grows.0; types = call.types; variables = variables }
 
-pub carries_ended : {lent built back : FunctionBuilder} {shape : InstructionData} {ty : «Type»} {inst : ℕ}
+pub carries_ended : {R : Type 0} {lent built back : FunctionBuilder R} {shape : InstructionData} {ty : «Type»} {inst : ℕ}
     → Builds lent built shape ty (Ok inst) → back ≡ built → Carries lent back
 carries_ended {lent} ends came =
-    subst (λ (b : FunctionBuilder). Carries lent b) (sym came) (record { values = ends.grows.0; types = ends.types; variables = ends.variables })
+    subst (λ (b : FunctionBuilder _). Carries lent b) (sym came) (record { values = ends.grows.0; types = ends.types; variables = ends.variables })
 
-pub carries_moved : {old new : FunctionBuilder} (to : ℕ) → new ≡ with_position old to → Carries old new
-carries_moved {old} to is = subst (λ (b : FunctionBuilder). Carries old b) (sym is) (record { values = omega arith; types = λ v here. refl; variables = refl })
+pub carries_moved : {R : Type 0} {old new : FunctionBuilder R} (to : ℕ) → new ≡ with_position old to → Carries old new
+carries_moved {old} to is = subst (λ (b : FunctionBuilder _). Carries old b) (sym is) (record { values = omega arith; types = λ v here. refl; variables = refl })
 
-pub carries_chosen : {old new : FunctionBuilder} → Chooses old new → Carries old new
+pub carries_chosen : {R : Type 0} {old new : FunctionBuilder R} → Chooses old new → Carries old new
 carries_chosen chooses = record { values = chooses.values; types = chooses.types; variables = chooses.variables }
 
 -- BLOCKS ----------------------------------------------------------------------------------------------------------------
 
 -- a block that a branch may lead to
-pub record IsOpen (b : FunctionBuilder) (block : ℕ) : Type 0 where
+pub record IsOpen {R : Type 0} (b : FunctionBuilder R) (block : ℕ) : Type 0 where
   pub exists : block < length b.func.now.blocks
-  pub unsealed : is_yes (sealed_of b.ctx.now.ssa block) ≡ false
+  pub unsealed : is_yes (sealed_of b.ctx.now.parts.ssa block) ≡ false
 
 -- a block without its terminator
-pub record IsUnfilled (b : FunctionBuilder) (block : ℕ) : Type 0 where
-  pub unfilled : status_of b.ctx.now block ≢ Filled
+pub record IsUnfilled {R : Type 0} (b : FunctionBuilder R) (block : ℕ) : Type 0 where
+  pub unfilled : status_of b.ctx.now.parts block ≢ Filled
 
-pub made_open : {b : FunctionBuilder} {block : ℕ} → block < length b.func.now.blocks → IsUntouched b.ctx.now block → IsOpen b block
+pub made_open : {R : Type 0} {b : FunctionBuilder R} {block : ℕ} → block < length b.func.now.blocks → IsUntouched b.ctx.now.parts block → IsOpen b block
 made_open exists untouched = record { exists = exists; unsealed = untouched.unsealed }
 
-pub made_unfilled : {b : FunctionBuilder} {block : ℕ} → IsUntouched b.ctx.now block → IsUnfilled b block
+pub made_unfilled : {R : Type 0} {b : FunctionBuilder R} {block : ℕ} → IsUntouched b.ctx.now.parts block → IsUnfilled b block
 made_unfilled untouched = record { unfilled = λ filled. let e = sym untouched.pristine ∙ filled in cc }
 
-pub open_kept : {old new : FunctionBuilder} {block : ℕ} → Keeps old new → IsOpen old block → IsOpen new block
+pub open_kept : {R : Type 0} {old new : FunctionBuilder R} {block : ℕ} → Keeps old new → IsOpen old block → IsOpen new block
 open_kept {old} {new} {block} kept was = record { exists = omega (arith, was.exists, kept.grows.2); unsealed = kept.seals block ∙ was.unsealed }
 
-pub unfilled_kept : {old new : FunctionBuilder} {block : ℕ} → Keeps old new → IsUnfilled old block → IsUnfilled new block
+pub unfilled_kept : {R : Type 0} {old new : FunctionBuilder R} {block : ℕ} → Keeps old new → IsUnfilled old block → IsUnfilled new block
 unfilled_kept {old} {new} {block} kept was = record { unfilled = λ filled. was.unfilled (kept.fills block filled) }
 
 -- another block is sealed
-pub open_sealed : {A : Type 0} {old new : FunctionBuilder} {answer : A} {block : ℕ} (other : ℕ) → IsCall old new (Ok answer) → Grows old.func.now new.func.now
-    → SealsAtMost old.ctx.now.ssa new.ctx.now.ssa other → block ≢ other → IsOpen old block → IsOpen new block
+pub open_sealed : {A : Type 0} {R : Type 0} {old new : FunctionBuilder R} {answer : A} {block : ℕ} (other : ℕ) → IsCall old new (Ok answer) → Grows old.func.now new.func.now
+    → SealsAtMost old.ctx.now.parts.ssa new.ctx.now.parts.ssa other → block ≢ other → IsOpen old block → IsOpen new block
 open_sealed {old = old} {new = new} {block = block} other call grows seals apart was = record { exists = omega (arith, was.exists, grows.2); unsealed = seals block apart ∙ was.unsealed }
 
-pub unfilled_called : {A : Type 0} {old new : FunctionBuilder} {answer : A} {block : ℕ} → IsCall old new (Ok answer) → IsUnfilled old block → IsUnfilled new block
+pub unfilled_called : {A : Type 0} {R : Type 0} {old new : FunctionBuilder R} {answer : A} {block : ℕ} → IsCall old new (Ok answer) → IsUnfilled old block → IsUnfilled new block
 unfilled_called {block = block} call was = record { unfilled = λ filled. was.unfilled (call.fills block filled) }
 
 -- an instruction ends the current block, for which the builder was lent and came back
-pub open_ended : {lent built back : FunctionBuilder} {shape : InstructionData} {ty : «Type»} {inst block : ℕ}
+pub open_ended : {R : Type 0} {lent built back : FunctionBuilder R} {shape : InstructionData} {ty : «Type»} {inst block : ℕ}
     → Builds lent built shape ty (Ok inst) → back ≡ built → IsOpen lent block → IsOpen back block
 open_ended {lent} {built} {back} {block = block} ends came was =
-    subst (λ (b : FunctionBuilder). IsOpen b block) (sym came) (record { exists = omega (arith, was.exists, ends.grows.2); unsealed = ends.seals block ∙ was.unsealed })
+    subst (λ (b : FunctionBuilder _). IsOpen b block) (sym came) (record { exists = omega (arith, was.exists, ends.grows.2); unsealed = ends.seals block ∙ was.unsealed })
 
-pub unfilled_ended : {lent built back : FunctionBuilder} {shape : InstructionData} {ty : «Type»} {inst block : ℕ}
+pub unfilled_ended : {R : Type 0} {lent built back : FunctionBuilder R} {shape : InstructionData} {ty : «Type»} {inst block : ℕ}
     → Builds lent built shape ty (Ok inst) → back ≡ built → (current : ℕ) → lent.position ≡ Some current → block ≢ current → IsUnfilled lent block → IsUnfilled back block
 unfilled_ended {lent} {built} {back} {block = block} ends came current at apart was =
-    subst (λ (b : FunctionBuilder). IsUnfilled b block) (sym came) (record {
+    subst (λ (b : FunctionBuilder _). IsUnfilled b block) (sym came) (record {
       unfilled = λ filled. was.unfilled (ends.fills block (λ here. apart (other (sym here ∙ at))) filled);
     })
   where
@@ -227,17 +227,17 @@ unfilled_ended {lent} {built} {back} {block = block} ends came current at apart 
     other same = cc
 
 -- another block becomes the current one
-pub open_moved : {old new : FunctionBuilder} {block : ℕ} (to : ℕ) → new ≡ with_position old to → IsOpen old block → IsOpen new block
-open_moved {old} {new} {block} to is was = subst (λ (b : FunctionBuilder). IsOpen b block) (sym is) (record { exists = was.exists; unsealed = was.unsealed })
+pub open_moved : {R : Type 0} {old new : FunctionBuilder R} {block : ℕ} (to : ℕ) → new ≡ with_position old to → IsOpen old block → IsOpen new block
+open_moved {old} {new} {block} to is was = subst (λ (b : FunctionBuilder _). IsOpen b block) (sym is) (record { exists = was.exists; unsealed = was.unsealed })
 
-pub unfilled_moved : {old new : FunctionBuilder} {block : ℕ} (to : ℕ) → new ≡ with_position old to → IsUnfilled old block → IsUnfilled new block
-unfilled_moved {old} {new} {block} to is was = subst (λ (b : FunctionBuilder). IsUnfilled b block) (sym is) (record { unfilled = was.unfilled })
+pub unfilled_moved : {R : Type 0} {old new : FunctionBuilder R} {block : ℕ} (to : ℕ) → new ≡ with_position old to → IsUnfilled old block → IsUnfilled new block
+unfilled_moved {old} {new} {block} to is was = subst (λ (b : FunctionBuilder _). IsUnfilled b block) (sym is) (record { unfilled = was.unfilled })
 
 -- a switch ends the current block
-pub open_chosen : {old new : FunctionBuilder} {block : ℕ} → Chooses old new → IsOpen old block → IsOpen new block
+pub open_chosen : {R : Type 0} {old new : FunctionBuilder R} {block : ℕ} → Chooses old new → IsOpen old block → IsOpen new block
 open_chosen {block = block} chooses was = record { exists = omega (arith, was.exists, chooses.blocks); unsealed = chooses.leaves.seals block was.exists ∙ was.unsealed }
 
-pub unfilled_chosen : {old new : FunctionBuilder} {block : ℕ} → Chooses old new → block < length old.func.now.blocks → (current : ℕ) → old.position ≡ Some current → block ≢ current
+pub unfilled_chosen : {R : Type 0} {old new : FunctionBuilder R} {block : ℕ} → Chooses old new → block < length old.func.now.blocks → (current : ℕ) → old.position ≡ Some current → block ≢ current
     → IsUnfilled old block → IsUnfilled new block
 unfilled_chosen {block = block} chooses here current at apart was = record {
   unfilled = λ filled. was.unfilled (chooses.leaves.fills block here (λ now. apart (other (sym now ∙ at))) filled);
@@ -249,11 +249,11 @@ unfilled_chosen {block = block} chooses here current at apart was = record {
 -- WHAT CALLS ASK FOR ----------------------------------------------------------------------------------------------------
 
 -- a branch may lead to an open block, with no arguments
-pub leads : {b : FunctionBuilder} {block : ℕ} → IsOpen b block → CanLead b (edge_to block [])
+pub leads : {R : Type 0} {b : FunctionBuilder R} {block : ℕ} → IsOpen b block → CanLead b (edge_to block [])
 leads open_block = ((open_block.exists, λ k arg below. absurd (omega (arith, below))), open_block.unsealed)
 
 -- so may a switch
-pub switched : {b : FunctionBuilder} {block : ℕ} → IsOpen b block → MayLead b block
+pub switched : {R : Type 0} {b : FunctionBuilder R} {block : ℕ} → IsOpen b block → MayLead b block
 switched open_block = record { exists = open_block.exists; unsealed = open_block.unsealed }
 
 -- a block that was made earlier has a lower number
@@ -282,29 +282,29 @@ first_exists [] is some each = absurd (omega (arith, some))
 first_exists {bound = bound} (v ∷ values) is some each = subst (λ (x : ℕ). x < bound) (sym is) (each 0 some)
 
 -- a block that has its terminator now may be left
-pub left_ended : {lent built back : FunctionBuilder} {shape : InstructionData} {ty : «Type»} {inst : ℕ}
+pub left_ended : {R : Type 0} {lent built back : FunctionBuilder R} {shape : InstructionData} {ty : «Type»} {inst : ℕ}
     → Builds lent built shape ty (Ok inst) → is_terminator shape ≡ true → back ≡ built → IsLeft back
 left_ended ends last came = subst IsLeft (sym came) (ends.left last)
 
 -- a variable has the type of what was made at the type of its own value, with a result of that type
-pub typed_alike : {read lent built back : FunctionBuilder} {shape : InstructionData} {variables : List «Type»} {made : ℕ} (variable value : ℕ)
-    → slice_get variables variable ≡ Some (value_at read.func.now value).ty → read.ctx.now.variables ≡ variables → value < length read.func.now.values
+pub typed_alike : {R : Type 0} {read lent built back : FunctionBuilder R} {shape : InstructionData} {variables : List «Type»} {made : ℕ} (variable value : ℕ)
+    → slice_get variables variable ≡ Some (value_at read.func.now value).ty → read.ctx.now.parts.variables ≡ variables → value < length read.func.now.values
     → Carries read lent → BuildsValue lent built shape (value_at lent.func.now value).ty (Ok made) → back ≡ built
     → result_type_of shape (value_at lent.func.now value).ty ≡ (value_at lent.func.now value).ty
-    → slice_get back.ctx.now.variables variable ≡ Some (value_at back.func.now made).ty
+    → slice_get back.ctx.now.parts.variables variable ≡ Some (value_at back.func.now made).ty
 typed_alike {read} {lent} {built} {back} {shape} {variables} {made} variable value typed unchanged here kept built_is came alike =
-    subst (λ (b : FunctionBuilder). slice_get b.ctx.now.variables variable ≡ Some (value_at b.func.now made).ty) (sym came)
+    subst (λ (b : FunctionBuilder _). slice_get b.ctx.now.parts.variables variable ≡ Some (value_at b.func.now made).ty) (sym came)
     (ap (λ (types : List «Type»). slice_get types variable) (built_is.variables ∙ kept.variables ∙ unchanged) ∙ typed
     ∙ ap (λ (ty : «Type»). Some ty) (sym (built_is.typed ∙ alike ∙ kept.types value here)))
 
 -- a variable has the type of what was made, where it has that which the table gives
-pub typed_anew : {lent built back : FunctionBuilder} {shape : InstructionData} {ty : «Type»} {variables : List «Type»} {made : ℕ} (variable : ℕ)
-    → slice_get variables variable ≡ Some (result_type_of shape ty) → back.ctx.now.variables ≡ variables
+pub typed_anew : {R : Type 0} {lent built back : FunctionBuilder R} {shape : InstructionData} {ty : «Type»} {variables : List «Type»} {made : ℕ} (variable : ℕ)
+    → slice_get variables variable ≡ Some (result_type_of shape ty) → back.ctx.now.parts.variables ≡ variables
     → BuildsValue lent built shape ty (Ok made) → back ≡ built
-    → slice_get back.ctx.now.variables variable ≡ Some (value_at back.func.now made).ty
+    → slice_get back.ctx.now.parts.variables variable ≡ Some (value_at back.func.now made).ty
 typed_anew {built = built} {back = back} {made = made} variable typed unchanged built_is came =
     ap (λ (types : List «Type»). slice_get types variable) unchanged ∙ typed
-    ∙ sym (ap (λ (b : FunctionBuilder). Some (value_at b.func.now made).ty) came ∙ ap (λ (ty : «Type»). Some ty) built_is.typed)
+    ∙ sym (ap (λ (b : FunctionBuilder _). Some (value_at b.func.now made).ty) came ∙ ap (λ (ty : «Type»). Some ty) built_is.typed)
 
 -- a variable that has a type is declared
 pub declared : {now : List «Type»} (variables : List «Type») (variable : ℕ) (ty : «Type») → slice_get variables variable ≡ Some ty → now ≡ variables → variable < length now

@@ -5,9 +5,9 @@ use Rattle.clif_builder.specs.Builder.{HasCurrent}
 use Rattle.clif_builder.specs.Growth.{Grows}
 
 -- The function has the same values, and more entries of tables; nothing else changes.
-pub record Imports (old new : FunctionBuilder) : Type 0 where
+pub record Imports {R : Type 0} (old new : FunctionBuilder R) : Type 0 where
   pub position : new.position ≡ old.position
-  pub context : new.ctx.now ≡ old.ctx.now
+  pub context : new.ctx.now.parts ≡ old.ctx.now.parts
   pub values : new.func.now.values ≡ old.func.now.values
   pub grows : Grows old.func.now new.func.now
   pub current : HasCurrent new

@@ -5,7 +5,8 @@ ghost use Rattle.std.specs.Prelude.{◌<◌, length, OnOk, IsTrue};
 ghost use Rattle.clif_types.specs.Types.{is_int};
 ghost use Rattle.clif_ir.specs.Body.{value_at};
 ghost use Rattle.clif_builder.specs.Builder.{HasCurrent};
-ghost use Rattle.clif_builder.specs.Context.{IsClear, IsFresh};
+ghost use Rattle.clif_builder.specs.Clear.{IsClear};
+ghost use Rattle.clif_builder.specs.Context.{IsFresh};
 ghost use Rattle.clif_switch.specs.Emission.{MayLead};
 ghost use Rattle.uses.specs.Choosing.{Chooses};
 

@@ -1,7 +1,8 @@
 //! A diamond: two arms that meet again.
 #![tactic(auto)]
 
-ghost use Rattle.clif_builder.specs.Context.{IsClear, IsFresh};
+ghost use Rattle.clif_builder.specs.Clear.{IsClear};
+ghost use Rattle.clif_builder.specs.Context.{IsFresh};
 
 use clif_types::types::I32;
 use cranelift_frontend::{

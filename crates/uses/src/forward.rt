@@ -6,7 +6,8 @@ ghost use Rattle.clif_instructions.specs.Instruction.{AFunctionRef};
 ghost use Rattle.clif_ir.specs.Consistent.{EntryExists};
 ghost use Rattle.clif_tables.specs.Callees.{function_at, signature_at};
 ghost use Rattle.clif_builder.specs.Builder.{HasCurrent};
-ghost use Rattle.clif_builder.specs.Context.{IsClear, IsFresh};
+ghost use Rattle.clif_builder.specs.Clear.{IsClear};
+ghost use Rattle.clif_builder.specs.Context.{IsFresh};
 
 use clif_types::types::I32;
 use cranelift_frontend::{

@@ -5,7 +5,8 @@ ghost use Rattle.std.specs.Prelude.{IfOk, OnOk};
 ghost use Rattle.clif_instructions.specs.Instruction.{AFunctionRef};
 ghost use Rattle.clif_ir.specs.Consistent.{EntryExists};
 ghost use Rattle.clif_builder.specs.Builder.{HasCurrent};
-ghost use Rattle.clif_builder.specs.Context.{IsClear, IsFresh};
+ghost use Rattle.clif_builder.specs.Clear.{IsClear};
+ghost use Rattle.clif_builder.specs.Context.{IsFresh};
 ghost use Rattle.uses.specs.Importing.{Imports};
 
 use clif_types::types::I64;

@@ -2,7 +2,8 @@
 #![tactic(auto)]
 
 ghost use Rattle.std.specs.Prelude.{IfOk};
-ghost use Rattle.clif_builder.specs.Context.{IsClear, IsFresh};
+ghost use Rattle.clif_builder.specs.Clear.{IsClear};
+ghost use Rattle.clif_builder.specs.Context.{IsFresh};
 
 mod choose;
 mod count_down;

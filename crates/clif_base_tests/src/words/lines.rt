@@ -128,7 +128,6 @@ fn wanted(rt: HostRuntime) -> Result<(), Fail> {
         ),
         (Fault::NoType, "a point and a type after it"),
         (Fault::UnknownCall("jmp"), "a call"),
-        (Fault::NotSupported("region"), "a call"),
         (Fault::NotForCursor("call"), "an instruction for cursor"),
         (Fault::TooManyNames(1), "="),
         (Fault::Repeated("conv"), "another header line"),

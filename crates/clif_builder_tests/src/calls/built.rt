@@ -1,11 +1,15 @@
 //! Functions that are built by lists of steps: how their building ends, and their texts.
 #![tactic(auto)]
 
+ghost use Rattle.std.specs.Prelude.{◌≡◌, IfSome};
+
 use crate::calls::marks;
 use crate::calls::steps::{Step, take_all};
 use crate::fixture::{CONFIG, function, signature};
 use clif_types::types::I32;
-use cranelift_frontend::{FinalizeError, Function, FunctionBuilder, FunctionBuilderContext, Type};
+use cranelift_frontend::{
+    FinalizeError, Function, FunctionBuilder, FunctionBuilderContext, RegionOf, Type,
+};
 use std::alloc::Global;
 use std::fmt::Write;
 use std::process::Abort;
@@ -54,18 +58,33 @@ fn text_of(alloc: Global, func: &Function) -> Result<String, Fail> {
     Ok(format!(in alloc; "{}", func.display())?)
 }
 
-// What the parts of a list of steps build with a context, which is empty before and afterwards.
+// Registers a callback for alias regions, if there is one.
+fn register(builder: &mut FunctionBuilder<'_>, ask: Option<RegionOf>)
+    requires { IfSome ask RegionOf.IsAlwaysCallable }
+    ensures { builder.new.ctx.now.parts ≡ builder.old.ctx.now.parts }
+{
+    if let Some(ask) = ask {
+        builder.make_stack_map_alias_region(ask);
+    }
+}
+
+// What the parts of a list of steps build with a context, which is empty before and afterwards. The callback for alias regions, if
+// there is one, is registered first.
 fn built_with(
     rt: &impl Abort,
     alloc: Global,
     ctx: &mut FunctionBuilderContext,
     header: Header,
     parts: &[&[Step]],
-) -> Result<Built, Fail> {
+    ask: Option<RegionOf>,
+) -> Result<Built, Fail>
+    requires { IfSome ask RegionOf.IsAlwaysCallable }
+{
     assert!(rt; ctx.is_empty());
     let signature = signature(alloc, header.params, header.returns)?;
     let mut func = function(alloc, header.name, signature)?;
     let mut builder = FunctionBuilder::new(&mut func, ctx);
+    register(&mut builder, ask);
     if let Some(ty) = header.marked {
         marks::declare_marked(rt, &mut builder, ty);
     }
@@ -90,7 +109,7 @@ pub fn finishes(
     answer: Result<(), FinalizeError>,
 ) -> Result<(), Fail> {
     let mut ctx = FunctionBuilderContext::new(alloc);
-    let built = built_with(rt, alloc, &mut ctx, header, parts)?;
+    let built = built_with(rt, alloc, &mut ctx, header, parts, None)?;
     assert!(rt; built.answer == answer);
     Ok(())
 }
@@ -105,7 +124,7 @@ fn ends_with(
     answer: Result<(), FinalizeError>,
     text: &str,
 ) -> Result<(), Fail> {
-    let built = built_with(rt, alloc, ctx, header, parts)?;
+    let built = built_with(rt, alloc, ctx, header, parts, None)?;
     assert!(rt; built.answer == answer);
     assert_eq!(rt; built.text.as_str(), text);
     Ok(())
@@ -153,6 +172,39 @@ fn builds_row(
     ends_with(rt, alloc, ctx, row.header, &[row.steps], Ok(()), row.text)
 }
 
+// A row is built with a context where this callback is asked, and has this text.
+fn asks_with(
+    rt: &impl Abort,
+    alloc: Global,
+    ctx: &mut FunctionBuilderContext,
+    row: &Row,
+    ask: RegionOf,
+    text: &str,
+) -> Result<(), Fail>
+    requires { RegionOf.IsAlwaysCallable ask }
+{
+    let built = built_with(rt, alloc, ctx, row.header, &[row.steps], Some(ask))?;
+    assert!(rt; built.answer == Ok(()));
+    assert_eq!(rt; built.text.as_str(), text);
+    Ok(())
+}
+
+/// A row is built where this callback is asked, and has this text. Then it is built with the same context and no callback, and
+/// has its own text.
+pub fn asks(
+    rt: &impl Abort,
+    alloc: Global,
+    row: &Row,
+    ask: RegionOf,
+    text: &str,
+) -> Result<(), Fail>
+    requires { RegionOf.IsAlwaysCallable ask }
+{
+    let mut ctx = FunctionBuilderContext::new(alloc);
+    asks_with(rt, alloc, &mut ctx, row, ask, text)?;
+    builds_row(rt, alloc, &mut ctx, row)
+}
+
 /// Each row is built, one after the other with one context.
 pub fn builds_in_turn(rt: &impl Abort, alloc: Global, rows: &[&Row]) -> Result<(), Fail> {
     let mut ctx = FunctionBuilderContext::new(alloc);
@@ -170,15 +222,19 @@ pub struct Kept<'a> {
     pub text: &'a str,
 }
 
-// The building with a context ends with this answer, and the function is the one that was built.
+// The building with a context ends with this answer, and the function is the one that was built. The callback for alias regions,
+// if there is one, is registered first.
 fn keeps(
     rt: &impl Abort,
     alloc: Global,
     ctx: &mut FunctionBuilderContext,
     kept: &Kept<'_>,
+    ask: Option<RegionOf>,
     answer: Result<(), FinalizeError>,
-) -> Result<(), Fail> {
-    let built = built_with(rt, alloc, ctx, kept.header, kept.parts)?;
+) -> Result<(), Fail>
+    requires { IfSome ask RegionOf.IsAlwaysCallable }
+{
+    let built = built_with(rt, alloc, ctx, kept.header, kept.parts, ask)?;
     assert!(rt; built.answer == answer);
     assert_eq!(rt; built.before.as_str(), kept.text);
     assert_eq!(rt; built.text.as_str(), kept.text);
@@ -196,6 +252,20 @@ pub fn keeps_between(
 ) -> Result<(), Fail> {
     let mut ctx = FunctionBuilderContext::new(alloc);
     builds_row(rt, alloc, &mut ctx, row)?;
-    keeps(rt, alloc, &mut ctx, kept, answer)?;
+    keeps(rt, alloc, &mut ctx, kept, None, answer)?;
     builds_row(rt, alloc, &mut ctx, row)
+}
+
+/// The building, for which this callback is registered, ends with this answer, and the function is the one that was built.
+pub fn keeps_unasked(
+    rt: &impl Abort,
+    alloc: Global,
+    kept: &Kept<'_>,
+    ask: RegionOf,
+    answer: Result<(), FinalizeError>,
+) -> Result<(), Fail>
+    requires { RegionOf.IsAlwaysCallable ask }
+{
+    let mut ctx = FunctionBuilderContext::new(alloc);
+    keeps(rt, alloc, &mut ctx, kept, Some(ask), answer)
 }

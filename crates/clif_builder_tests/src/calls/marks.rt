@@ -21,9 +21,9 @@ fn asserts_room(rt: &impl Abort, ty: Type)
 #[tactic(auto, using(crate::proofs::Unused::unused))]
 // Declares a variable. A new builder has no record of it.
 fn declare(rt: &impl Abort, builder: &mut FunctionBuilder<'_>, ty: Type) -> Variable
-    requires { builder.old.ctx.now ≡ empty_context }
-    ensures declared { slice_get builder.new.ctx.now.variables result ≡ Some ty }
-    ensures unused { IsUnused builder.new.ctx.now result }
+    requires { builder.old.ctx.now.parts ≡ empty_context }
+    ensures declared { slice_get builder.new.ctx.now.parts.variables result ≡ Some ty }
+    ensures unused { IsUnused builder.new.ctx.now.parts result }
 {
     assert!(rt; ty.is_valid());
     builder.declare_var(ty).expect(rt, "a variable")
@@ -31,8 +31,8 @@ fn declare(rt: &impl Abort, builder: &mut FunctionBuilder<'_>, ty: Type) -> Vari
 
 // Marks a variable.
 fn mark(rt: &impl Abort, builder: &mut FunctionBuilder<'_>, variable: Variable, ty: Type)
-    requires declared { slice_get builder.old.ctx.now.variables variable ≡ Some ty }
-    requires unused { IsUnused builder.old.ctx.now variable }
+    requires declared { slice_get builder.old.ctx.now.parts.variables variable ≡ Some ty }
+    requires unused { IsUnused builder.old.ctx.now.parts variable }
 {
     asserts_room(rt, ty);
     builder
@@ -42,7 +42,7 @@ fn mark(rt: &impl Abort, builder: &mut FunctionBuilder<'_>, variable: Variable, 
 
 /// Declares a variable of this type that stack maps need, as the first one.
 pub fn declare_marked(rt: &impl Abort, builder: &mut FunctionBuilder<'_>, ty: Type)
-    requires { builder.old.ctx.now ≡ empty_context }
+    requires { builder.old.ctx.now.parts ≡ empty_context }
 {
     let variable = declare(rt, builder, ty);
     assert!(rt; variable == Variable::from_u32(0));

@@ -2,7 +2,7 @@
 #![tactic(auto)]
 
 ghost use Rattle.clif_switch.specs.Emission.{MayLead};
-ghost use Rattle.clif_helper_tests.specs.Cases.{AllLead, AllLeadAnywhere};
+ghost use Rattle.clif_helper_tests.specs.Cases.{AllLead};
 
 use crate::asserted::{asserts_current, asserts_value};
 use cranelift_frontend::{
@@ -66,9 +66,9 @@ pub(crate) fn number(
     }
 }
 
-// A switch without a case.
-fn empty_switch(alloc: Global) -> Switch
-    ensures { AllLeadAnywhere result }
+// A switch without a case, to be emitted by a builder.
+fn empty_switch(alloc: Global, _builder: &FunctionBuilder<'_>) -> Switch
+    ensures { AllLead result _builder.now }
 {
     Switch::new(alloc)
 }
@@ -99,7 +99,7 @@ fn switch_of(
     ensures { AllLead result builder.now }
 {
     assert!(rt; keys.len() == blocks.len());
-    let mut switch = empty_switch(alloc);
+    let mut switch = empty_switch(alloc, builder);
     for place in 0..keys.len() {
         set_case(rt, builder, &mut switch, keys[place], blocks[place]);
     }

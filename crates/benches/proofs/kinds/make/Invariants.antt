@@ -3,4 +3,4 @@ use Rattle.benches.specs.Variables.{eight}
 use Rattle.benches.proofs.kinds.make.Given as goal
 
 abbrev pub invariant-loop-number : goal.invariant-loop-number
-invariant-loop-number l = l.builder.ctx.now.variables ≡ eight
+invariant-loop-number g l = l.builder.ctx.now.parts.variables ≡ eight

@@ -1,4 +1,4 @@
 use Rattle.benches.proofs.switching.switch_to.Goals as goal
 
 pub loop-place-init : goal.loop-place-init
-loop-place-init c = c.no_case-switch.ensures c.args.builder.now
+loop-place-init g c = c.no_case-switch.ensures

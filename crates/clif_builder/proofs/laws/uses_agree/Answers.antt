@@ -2,4 +2,4 @@ use Rattle.clif_builder.proofs.Remembered
 use Rattle.clif_builder.proofs.laws.uses_agree.Goals as goal
 
 pub returns : goal.returns
-returns c = Remembered.uses_agree
+returns g c = Remembered.uses_agree

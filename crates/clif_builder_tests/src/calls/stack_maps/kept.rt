@@ -1,7 +1,7 @@
 //! What leaves a function as it was built. The context is empty then, and serves for a function that is spilled.
 #![tactic(auto)]
 
-use crate::calls::built::{Kept, builds_in_turn, keeps_between, typed};
+use crate::calls::built::{Header, Kept, builds_in_turn, keeps_between};
 use crate::calls::queries::Query::Failed;
 use crate::calls::stack_maps::rows::SLOT_REUSE;
 use crate::calls::steps::Deed::{Create, End, Fail as FailNow, Seal, Switch, TakeParams};
@@ -12,9 +12,15 @@ use crate::calls::steps::Step;
 use crate::calls::steps::Step::{Do, Enter, Is, Isnt, Make, Note};
 use clif_types::types::{I32, I64};
 use cranelift_frontend::{Block, FinalizeError};
-use std::alloc::Global;
-use std::process::Abort;
 use std::test::Fail;
+
+// The functions that are kept take nothing and return nothing.
+const KEPT: Header = Header {
+    name: Some("kept"),
+    params: &[],
+    returns: &[],
+    marked: None,
+};
 
 // A block with a value, which is passed to two calls. It is spilled where stack maps need it.
 const BEGINNING: [Step; 5] = [
@@ -33,7 +39,7 @@ const ENDED: [Step; 1] = [Do(End)];
 
 const SEALED: [Step; 1] = [Do(Seal(0))];
 
-const FAILED: [Step; 3] = [Isnt(Failed), Do(FailNow), Is(Failed)];
+const FAILING: [Step; 3] = [Isnt(Failed), Do(FailNow), Is(Failed)];
 
 const OPEN: &str = "function %kept() system_v {
     sig0 = (i32) system_v
@@ -58,52 +64,33 @@ block0:
 }
 ";
 
-// The building of `%kept` ends with this answer, and the function is the one that was built. The row `slot_reuse` is built
-// with the context before and afterwards.
-fn keeps(
-    rt: &impl Abort,
-    alloc: Global,
-    parts: &[&[Step]],
-    answer: Result<(), FinalizeError>,
-    text: &str,
-) -> Result<(), Fail> {
-    let kept = Kept {
-        header: typed("kept", &[], &[]),
-        parts,
-        text,
-    };
-    keeps_between(rt, alloc, &kept, answer, &SLOT_REUSE)
-}
-
 /// The block isn't sealed.
-#[test]
-fn unsealed(rt: HostRuntime) -> Result<(), Fail> {
-    let parts: [&[Step]; 4] = [&BEGINNING, &NEEDED, &CALLS, &ENDED];
-    let refusal = FinalizeError::Unsealed(Block::from_u32(0));
-    keeps(&rt, rt.alloc(), &parts, Err(refusal), WHOLE)
-}
+pub const UNSEALED: Kept<'static> = Kept {
+    header: KEPT,
+    parts: &[&BEGINNING, &NEEDED, &CALLS, &ENDED],
+    text: WHOLE,
+};
 
 /// The block has no terminator.
-#[test]
-fn unfilled(rt: HostRuntime) -> Result<(), Fail> {
-    let parts: [&[Step]; 4] = [&BEGINNING, &NEEDED, &CALLS, &SEALED];
-    let refusal = FinalizeError::Unfilled(Block::from_u32(0));
-    keeps(&rt, rt.alloc(), &parts, Err(refusal), OPEN)
-}
+pub const UNFILLED: Kept<'static> = Kept {
+    header: KEPT,
+    parts: &[&BEGINNING, &NEEDED, &CALLS, &SEALED],
+    text: OPEN,
+};
 
 /// The builder failed, and nothing else is missing.
-#[test]
-fn failed(rt: HostRuntime) -> Result<(), Fail> {
-    let parts: [&[Step]; 6] = [&BEGINNING, &NEEDED, &CALLS, &ENDED, &SEALED, &FAILED];
-    keeps(&rt, rt.alloc(), &parts, Err(FinalizeError::Failed), WHOLE)
-}
+pub const FAILED: Kept<'static> = Kept {
+    header: KEPT,
+    parts: &[&BEGINNING, &NEEDED, &CALLS, &ENDED, &SEALED, &FAILING],
+    text: WHOLE,
+};
 
 /// Stack maps need nothing.
-#[test]
-fn nothing_recorded(rt: HostRuntime) -> Result<(), Fail> {
-    let parts: [&[Step]; 4] = [&BEGINNING, &CALLS, &ENDED, &SEALED];
-    keeps(&rt, rt.alloc(), &parts, Ok(()), WHOLE)
-}
+pub const NOTHING_RECORDED: Kept<'static> = Kept {
+    header: KEPT,
+    parts: &[&BEGINNING, &CALLS, &ENDED, &SEALED],
+    text: WHOLE,
+};
 
 const ONCE: [Step; 10] = [
     Enter(Signature(&[I64], &[])),
@@ -119,12 +106,15 @@ const ONCE: [Step; 10] = [
 ];
 
 /// Stack maps need a value that is only passed to a call, and so isn't live across it.
-#[test]
-fn nothing_live_across_calls(rt: HostRuntime) -> Result<(), Fail> {
-    let kept = Kept {
-        header: typed("once", &[I64], &[]),
-        parts: &[&ONCE],
-        text: "function %once(i64) system_v {
+pub const NOTHING_LIVE: Kept<'static> = Kept {
+    header: Header {
+        name: Some("once"),
+        params: &[I64],
+        returns: &[],
+        marked: None,
+    },
+    parts: &[&ONCE],
+    text: "function %once(i64) system_v {
     sig0 = (i64) system_v
     fn0 = %g sig0
 
@@ -133,8 +123,35 @@ block0(v0: i64):
     return
 }
 ",
-    };
-    keeps_between(&rt, rt.alloc(), &kept, Ok(()), &SLOT_REUSE)
+};
+
+/// The row `slot_reuse` is built with the context before and afterwards.
+#[test]
+fn unsealed(rt: HostRuntime) -> Result<(), Fail> {
+    let refusal = FinalizeError::Unsealed(Block::from_u32(0));
+    keeps_between(&rt, rt.alloc(), &UNSEALED, Err(refusal), &SLOT_REUSE)
+}
+
+#[test]
+fn unfilled(rt: HostRuntime) -> Result<(), Fail> {
+    let refusal = FinalizeError::Unfilled(Block::from_u32(0));
+    keeps_between(&rt, rt.alloc(), &UNFILLED, Err(refusal), &SLOT_REUSE)
+}
+
+#[test]
+fn failed(rt: HostRuntime) -> Result<(), Fail> {
+    let refusal = FinalizeError::Failed;
+    keeps_between(&rt, rt.alloc(), &FAILED, Err(refusal), &SLOT_REUSE)
+}
+
+#[test]
+fn nothing_recorded(rt: HostRuntime) -> Result<(), Fail> {
+    keeps_between(&rt, rt.alloc(), &NOTHING_RECORDED, Ok(()), &SLOT_REUSE)
+}
+
+#[test]
+fn nothing_live_across_calls(rt: HostRuntime) -> Result<(), Fail> {
+    keeps_between(&rt, rt.alloc(), &NOTHING_LIVE, Ok(()), &SLOT_REUSE)
 }
 
 /// One context serves for two functions that are spilled.

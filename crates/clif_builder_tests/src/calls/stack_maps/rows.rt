@@ -67,8 +67,8 @@ block0:
 ",
 };
 
-// `loop`: a marked variable lives around a loop whose body makes another value.
-const LOOP: Row = Row {
+/// `loop`: a marked variable lives around a loop whose body makes another value.
+pub const LOOP: Row = Row {
     header: Header {
         name: Some("loop"),
         params: &[I32],
@@ -139,9 +139,9 @@ block2:
 ",
 };
 
-// `irreducible`: block1 and block2 call with a marked variable, and lead to each other and to block3. It has one slot, of
-// eight bytes.
-const IRREDUCIBLE: Row = Row {
+/// `irreducible`: block1 and block2 call with a marked variable, and lead to each other and to block3. It has one slot, of
+/// eight bytes.
+pub const IRREDUCIBLE: Row = Row {
     header: Header {
         name: Some("irreducible"),
         params: &[I32, I64],
@@ -215,8 +215,8 @@ block3(v6: i64):
 ",
 };
 
-// `try_call`: the value and the own result on the normal edge.
-const TRY_CALL: Row = Row {
+/// `try_call`: the value and the own result on the normal edge.
+pub const TRY_CALL: Row = Row {
     header: Header {
         name: Some("try"),
         params: &[I64],
@@ -268,8 +268,8 @@ block2:
 ",
 };
 
-// Both edges of the try call pass the value: two landing blocks.
-const LANDINGS: Row = Row {
+/// Both edges of the try call pass the value: two landing blocks.
+pub const LANDINGS: Row = Row {
     header: Header {
         name: Some("try"),
         params: &[I64],
@@ -327,9 +327,9 @@ block2(v3: i64):
 ",
 };
 
-// `zero_marked`: a marked variable that is never assigned is used in a sealed block to which nothing leads, before a call
-// and after it.
-const ZERO_MARKED: Row = Row {
+/// `zero_marked`: a marked variable that is never assigned is used in a sealed block to which nothing leads, before a call
+/// and after it.
+pub const ZERO_MARKED: Row = Row {
     header: Header {
         name: Some("zero_marked"),
         params: &[],

@@ -362,8 +362,8 @@ block3(v5: i64, v6: i64):
 
 const TYPES: &[Type] = &[I8, I16, I32, I64, I128, F32, F64, I8X16, I16X8];
 
-// `needs_stack_map_and_heterogeneous_types`: nine parameters of other types, and a slot for each.
-const TYPED: Row = Row {
+/// `needs_stack_map_and_heterogeneous_types`: nine parameters of other types, and a slot for each.
+pub const TYPED: Row = Row {
     header: Header {
         name: Some("sample"),
         params: TYPES,

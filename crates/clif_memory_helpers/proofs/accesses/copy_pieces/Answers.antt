@@ -6,7 +6,7 @@ use Rattle.clif_memory_helpers.proofs.Loads.{copy_made}
 use Rattle.clif_memory_helpers.proofs.accesses.copy_pieces.Goals as goal
 
 pub returns : goal.returns
-returns c =
+returns g c =
     let here : c.from.result ≡ c.args.accesses.count = grind (arith, common_steps, c.from.ensures) in
     let few : c.from.result ≤ length c.in_ok-loaded.loaded = let many = c.in_ok-loaded.ensures.many in let four = c.requires.planned.few in omega (arith, here, many, four) in
     copy_made c.ledger_is_read_by_number.ensures c.args.accesses c.args.flags c.args.target c.args.source c.in_ok-loaded.loaded _ c.args.bx.now c.load_pieces.new.bx c.store_pieces.new.bx c.store_pieces.result

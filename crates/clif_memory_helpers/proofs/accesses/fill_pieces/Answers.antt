@@ -16,7 +16,7 @@ use Rattle.clif_memory_helpers.proofs.Pieces.{typed_take}
 use Rattle.clif_memory_helpers.proofs.accesses.fill_pieces.Goals as goal
 
 pub returns-in_err-constant : goal.returns-in_err-constant
-returns-in_err-constant c =
+returns-in_err-constant g c =
     let p = err_from_is_err_and c.from_residual.result c.from_residual.ensures.1 in
     record {
       filling = c.repeated_byte.result;
@@ -26,12 +26,12 @@ returns-in_err-constant c =
     }
 
 pub store_pieces-requires-clause-typed : goal.store_pieces-requires-clause-typed
-store_pieces-requires-clause-typed c =
+store_pieces-requires-clause-typed g c =
     let typed : HasType c.iconst.new.self c.in_ok-constant.constant c.args.accesses.ty = (c.in_ok-constant.ensures.built.exists, c.in_ok-constant.ensures.built.typed) in
     typed_take c.iconst.new.self c.args.accesses.ty c.from.result _ (typed, (typed, (typed, (typed, tt))))
 
 pub returns : goal.returns
-returns c =
+returns g c =
     let here : c.from.result ≡ c.args.accesses.count = grind (arith, common_steps, c.from.ensures) in
     let fits : SFits w64 c.repeated_byte.result = search rules in
     let constant : ℕ = c.in_ok-constant.constant in

@@ -10,7 +10,7 @@ use Rattle.clif_memory_helpers.proofs.Pieces.{loads_step}
 use Rattle.clif_memory_helpers.proofs.accesses.load_pieces.Goals as goal
 
 pub loop-number-preserved : goal.loop-number-preserved
-loop-number-preserved c =
+loop-number-preserved g c =
     let number : ℕ = c.loop-number.number in
     let fits : SFits w32 c.offset_of-offset.result = search rules in
     let here : c.from.result ≡ number = grind (arith, common_steps, c.from.ensures) in

@@ -6,14 +6,14 @@ use Rattle.clif_memory_helpers.proofs.LibraryCalls.{number_made, number_is}
 use Rattle.clif_memory_helpers.proofs.library.call_for_number.Goals as goal
 
 pub bounds-inst_results-0 : goal.bounds-inst_results-0
-bounds-inst_results-0 c =
+bounds-inst_results-0 g c =
     let results = c.inst_results.ensures.exact
     ∙ number_is c.ledger_is_read_by_number.ensures c.requests_ask_for_their_shapes.ensures c.args.args.now c.args.function c.in_ok-call.call c.args.bx.now c.call.new.self c.requires.current c.requires.gives c.in_ok-call.ensures.built in
     let one : length c.inst_results.result.now ≡ 1 = ap (λ (xs : List ℕ). length xs) results in
     omega (arith, one)
 
 pub returns : goal.returns
-returns c =
+returns g c =
     let results = c.inst_results.ensures.exact
     ∙ number_is c.ledger_is_read_by_number.ensures c.requests_ask_for_their_shapes.ensures c.args.args.now c.args.function c.in_ok-call.call c.args.bx.now c.call.new.self c.requires.current c.requires.gives c.in_ok-call.ensures.built in
     let one : length c.inst_results.result.now ≡ 1 = ap (λ (xs : List ℕ). length xs) results in

@@ -8,6 +8,6 @@ use Rattle.clif_memory_helpers.proofs.LibraryCalls.{call_made}
 use Rattle.clif_memory_helpers.proofs.library.call_library.Goals as goal
 
 pub returns : goal.returns
-returns c =
+returns g c =
     makes_ok c.args.bx.now c.call.new.self c.args.args.now (calls_function c.args.bx.now.func.now.tables c.args.function) no_results c.in_ok-call.field-0 (λ inst. []) (tt {0}) no_values refl
     (call_made c.ledger_is_read_by_number.ensures c.requests_ask_for_their_shapes.ensures c.args.args.now c.args.function c.args.bx.now c.call.new.self (Ok c.in_ok-call.field-0) c.requires.current c.in_ok-call.ensures.built)

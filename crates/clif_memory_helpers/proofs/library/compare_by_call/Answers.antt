@@ -8,7 +8,7 @@ use Rattle.clif_memory_helpers.proofs.LibraryCalls.{sized_made}
 use Rattle.clif_memory_helpers.proofs.library.compare_by_call.Goals as goal
 
 pub returns : goal.returns
-returns c = record {
+returns g c = record {
   typed = c.call_for_number.ensures.typed;
   made = sized_made c.ledger_is_read_by_number.ensures c.requests_ask_for_their_shapes.ensures c.args.config Memcmp c.args.left c.args.right c.args.size c.in_ok-function.function
       c.args.bx.now c.import_library.new.bx c.call_for_number.new.bx c.call_for_number.result one_value c.in_ok-function.ensures (λ place names. answer_of place 1 ∷ [])

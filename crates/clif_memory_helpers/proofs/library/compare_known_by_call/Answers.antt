@@ -11,7 +11,7 @@ use Rattle.clif_memory_helpers.proofs.LibraryCalls.{compare_known_made, const_is
 use Rattle.clif_memory_helpers.proofs.library.compare_known_by_call.Goals as goal
 
 pub returns-in_err-zero : goal.returns-in_err-zero
-returns-in_err-zero c =
+returns-in_err-zero g c =
     let p = err_from_is_err_and c.from_residual-in_err-zero.result c.from_residual-in_err-zero.ensures.1 in
     typed_failed i8 c.args.bx.now c.iconst-2.new.self (c.args.left ∷ c.args.right ∷ []) _ _ c.from_residual-in_err-zero.result c.in_err-zero.field-0.0 p.0
     (line_on c.args.bx.now c.import_library.new.bx c.iconst-2.new.self c.in_ok-function.function (Err c.in_err-zero.field-0.0) c.in_ok-function.ensures.made.line
@@ -21,7 +21,7 @@ returns-in_err-zero c =
     (value_line c.call_for_number.new.bx c.iconst-2.new.self _ _ (Err c.in_err-zero.field-0.0) c.in_ok-order.ensures.made.line.current c.in_err-zero.ensures.built)))) p.1 p.2
 
 pub returns : goal.returns
-returns c =
+returns g c =
     let fits : SFits w64 c.cast_signed.result = search rules in
     record {
       typed = typed_as c.iconst-2.new.self c.icmp.new.self _ _ i8 c.icmp.result refl c.icmp.ensures.built;

@@ -5,6 +5,6 @@ use Rattle.clif_memory_helpers.proofs.LibraryCalls.{sized_made}
 use Rattle.clif_memory_helpers.proofs.library.copy_by_call.Goals as goal
 
 pub returns : goal.returns
-returns c =
+returns g c =
     sized_made c.ledger_is_read_by_number.ensures c.requests_ask_for_their_shapes.ensures c.args.config c.args.callee c.args.target c.args.source c.args.size c.in_ok-function.function
     c.args.bx.now c.import_library.new.bx c.call_library.new.bx c.call_library.result no_values c.in_ok-function.ensures no_results no_results (λ place names. refl) c.call_library.ensures

@@ -7,7 +7,7 @@ use Rattle.clif_memory_helpers.proofs.LibraryCalls.{const_is, fill_known_made}
 use Rattle.clif_memory_helpers.proofs.library.fill_known_by_call.Goals as goal
 
 pub returns : goal.returns
-returns c =
+returns g c =
     let fits : SFits w64 c.cast_signed.result = search rules in
     let byte_fits : SFits w64 c.from.result = search rules in
     fill_known_made c.ledger_is_read_by_number.ensures c.requests_ask_for_their_shapes.ensures c.args.config c.args.byte c.args.size c.args.target c.in_ok-function.function c.in_ok-byte.byte c.in_ok-size.size c.in_ok-wide.wide

@@ -13,39 +13,39 @@ use Rattle.clif_replay.proofs.Conditions
 use Rattle.clif_replay.proofs.make.try_def_var.Goals as goal
 
 pub value_named-requires : goal.value_named-requires
-value_named-requires c = λ i inside.
+value_named-requires g c = λ i inside.
     subst (λ (f : Body). AnswerExists f (slice_index_or c.args.answers.now i answer.Nothing)) (sym c.func.ensures) (answers-exist c.requires.calls c.args.builder.now c.args.answers.now c.requires.ready i inside)
 
 pub returns-in_default : goal.returns-in_default
-returns-in_default c =
+returns-in_default g c =
     made-denied c.args.builder.now c.args.answers.now (λ naming declared calls ready. Conditions.try-define-none calls c.args.builder.now c.args.answers.now ready c.args.variable c.args.name
     (ap (λ (f : Body). value_of f c.args.answers.now c.args.name) (sym c.func.ensures) ∙ sym c.value_named.ensures ∙ c.in_default.is))
 
 pub returns-then-not-has_current : goal.returns-then-not-has_current
-returns-then-not-has_current c =
+returns-then-not-has_current g c =
     made-denied c.args.builder.now c.args.answers.now (λ naming declared calls ready. Conditions.try-define-closed calls c.args.builder.now c.args.answers.now ready c.args.variable c.args.name (sym c.has_current.ensures ∙ c.if-not-has_current.true))
 
 pub value_type-found-requires : goal.value_type-found-requires
-value_type-found-requires c =
+value_type-found-requires g c =
     subst (λ (f : Body). c.in-Some.value < length f.values) (sym c.func-2.ensures)
     (value-exists c.requires.calls c.args.builder.now c.args.answers.now c.requires.ready c.args.name c.in-Some.value
     (ap (λ (f : Body). value_of f c.args.answers.now c.args.name) (sym c.func.ensures) ∙ sym c.value_named.ensures ∙ c.in-Some.is))
 
 pub try_def_var-requires-clause-current : goal.try_def_var-requires-clause-current
-try_def_var-requires-clause-current c = Conditions.has-current c.requires.calls c.args.builder.now c.args.answers.now c.requires.ready (sym c.has_current.ensures ∙ c.if-not-has_current.false)
+try_def_var-requires-clause-current g c = Conditions.has-current c.requires.calls c.args.builder.now c.args.answers.now c.requires.ready (sym c.has_current.ensures ∙ c.if-not-has_current.false)
 
 pub try_def_var-requires-clause-value_exists : goal.try_def_var-requires-clause-value_exists
-try_def_var-requires-clause-value_exists c =
+try_def_var-requires-clause-value_exists g c =
     value-exists c.requires.calls c.args.builder.now c.args.answers.now c.requires.ready c.args.name c.in-Some.value
     (ap (λ (f : Body). value_of f c.args.answers.now c.args.name) (sym c.func.ensures) ∙ sym c.value_named.ensures ∙ c.in-Some.is)
 
 pub returns-in-Ok : goal.returns-in-Ok
-returns-in-Ok c =
+returns-in-Ok g c =
     let done = c.in_ok-try_def_var.ensures in
     let value = c.in-Some.value in
     let here = sym c.has_current.ensures ∙ c.if-not-has_current.false in
     let found = ap (λ (f : Body). value_of f c.args.answers.now c.args.name) (sym c.func.ensures) ∙ sym c.value_named.ensures ∙ c.in-Some.is in
-    let typed = subst (λ told. OnOk told (slice_get c.args.builder.now.ctx.now.variables c.args.variable ≡ Some (value_at c.args.builder.now.func.now value).ty)) c.in-Ok.is done.same_type in
+    let typed = subst (λ told. OnOk told (slice_get c.args.builder.now.ctx.now.parts.variables c.args.variable ≡ Some (value_at c.args.builder.now.func.now value).ty)) c.in-Ok.is done.same_type in
     made-answer c.args.builder.now c.try_def_var.new.self c.args.answers.now answer.Nothing c.try_def_var.ensures.call.loans done.grows.3
     (answered-sound _ c.try_def_var.result _ c.try_def_var.ensures.call.fails c.in_ok-try_def_var.was) c.try_def_var.ensures.variables
     (λ naming declared calls ready. Conditions.define-typed calls c.args.builder.now c.args.answers.now ready c.args.variable c.args.name value here found typed)
@@ -57,7 +57,7 @@ returns-in-Ok c =
     ))
 
 pub returns-in-Err : goal.returns-in-Err
-returns-in-Err c =
+returns-in-Err g c =
     let done = c.in_ok-try_def_var.ensures in
     let value = c.in-Some.value in
     let here = sym c.has_current.ensures ∙ c.if-not-has_current.false in

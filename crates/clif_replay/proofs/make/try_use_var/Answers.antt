@@ -15,14 +15,14 @@ use Rattle.clif_replay.proofs.Conditions
 use Rattle.clif_replay.proofs.make.try_use_var.Goals as goal
 
 pub returns-then-not-has_current : goal.returns-then-not-has_current
-returns-then-not-has_current c =
+returns-then-not-has_current g c =
     made-denied c.args.builder.now c.args.answers.now (λ naming declared calls ready. Conditions.try-use-closed calls c.args.builder.now c.args.answers.now ready c.args.variable (sym c.has_current.ensures ∙ c.if-not-has_current.true))
 
 pub try_use_var-requires : goal.try_use_var-requires
-try_use_var-requires c = record { current = Conditions.has-current c.requires.calls c.args.builder.now c.args.answers.now c.requires.ready (sym c.has_current.ensures ∙ c.if-not-has_current.false) }
+try_use_var-requires g c = record { current = Conditions.has-current c.requires.calls c.args.builder.now c.args.answers.now c.requires.ready (sym c.has_current.ensures ∙ c.if-not-has_current.false) }
 
 pub returns-in_err-value : goal.returns-in_err-value
-returns-in_err-value c =
+returns-in_err-value g c =
     let done = c.try_use_var.ensures in
     let p = err_from_is_err_and c.from_residual.result c.from_residual.ensures.1 in
     let here = sym c.has_current.ensures ∙ c.if-not-has_current.false in
@@ -31,13 +31,13 @@ returns-in_err-value c =
     (λ full. use-met c.args.builder.now c.try_use_var.new.self.func.now c.try_use_var.result c.args.variable (done.full_declared full) (Conditions.has-current c.requires.calls c.args.builder.now c.args.answers.now c.requires.ready here) done.constructs full done.full)
 
 pub returns-in-Ok : goal.returns-in-Ok
-returns-in-Ok c =
+returns-in-Ok g c =
     let done = c.in_ok-value.ensures in
     let here = sym c.has_current.ensures ∙ c.if-not-has_current.false in
     made-answer c.args.builder.now c.try_use_var.new.self c.args.answers.now c.one_value.result c.try_use_var.ensures.call.loans done.grows.3
     (answered-sound _ c.try_use_var.result _ c.try_use_var.ensures.call.fails c.in_ok-value.was) c.try_use_var.ensures.variables
     (λ naming declared calls ready. Conditions.use-declared calls c.args.builder.now c.args.answers.now ready c.args.variable here
-    (subst (λ told. OnOk told (c.args.variable < length c.args.builder.now.ctx.now.variables)) c.in-Ok.is done.declared))
+    (subst (λ told. OnOk told (c.args.variable < length c.args.builder.now.ctx.now.parts.variables)) c.in-Ok.is done.declared))
     (λ naming declared calls ready.
     let value = c.in-Ok.value in
     let stands = subst (λ told. StandsFor declared (calls ++ use_told c.args.variable told ∷ []) c.try_use_var.new.self) c.in-Ok.is (done.told.stands declared calls ready.stands tt) in
@@ -45,7 +45,7 @@ returns-in-Ok c =
     (value ∷ [], ready-more calls _ c.args.builder.now c.try_use_var.new.self _ (answer.Values value 1) ready tt (done.grows.6, done.grows.8) stands (or_invalid (variable_type (ledger_of calls) c.args.variable) ∷ [], refl, refl, refl)))
 
 pub returns-in-Err : goal.returns-in-Err
-returns-in-Err c =
+returns-in-Err g c =
     let done = c.in_ok-value.ensures in
     let here = sym c.has_current.ensures ∙ c.if-not-has_current.false in
     let refused = subst (λ told. IfErr told (RefusesUse c.args.builder.now c.try_use_var.new.self c.args.variable)) c.in-Err.is done.refused in

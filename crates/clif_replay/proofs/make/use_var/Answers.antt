@@ -14,23 +14,23 @@ use Rattle.clif_replay.proofs.Conditions
 use Rattle.clif_replay.proofs.make.use_var.Goals as goal
 
 pub returns-then-not-may_use : goal.returns-then-not-may_use
-returns-then-not-may_use c = made-misuse c.args.builder.now c.args.answers.now (λ naming declared calls ready. Conditions.use-same calls c.args.builder.now c.args.answers.now ready c.args.variable ∙ ap (λ (types : List «Type»). can_use c.args.builder.now types c.args.variable) (sym c.requires.types) ∙ sym c.may_use.ensures ∙ c.if-not-may_use.true)
+returns-then-not-may_use g c = made-misuse c.args.builder.now c.args.answers.now (λ naming declared calls ready. Conditions.use-same calls c.args.builder.now c.args.answers.now ready c.args.variable ∙ ap (λ (types : List «Type»). can_use c.args.builder.now types c.args.variable) (sym c.requires.types) ∙ sym c.may_use.ensures ∙ c.if-not-may_use.true)
 
 pub use_var-requires-clause-current : goal.use_var-requires-clause-current
-use_var-requires-clause-current c = Conditions.has-current c.requires.sound.calls c.args.builder.now c.args.answers.now c.requires.sound.ready (and_parts _ _ (sym c.may_use.ensures ∙ c.if-not-may_use.false)).0
+use_var-requires-clause-current g c = Conditions.has-current c.requires.sound.calls c.args.builder.now c.args.answers.now c.requires.sound.ready (and_parts _ _ (sym c.may_use.ensures ∙ c.if-not-may_use.false)).0
 
 pub use_var-requires-clause-declared : goal.use_var-requires-clause-declared
-use_var-requires-clause-declared c = Conditions.declared-there c.args.builder.now c.args.types.now c.args.builder.now.ctx.now.variables c.args.variable c.requires.types (sym c.may_use.ensures ∙ c.if-not-may_use.false)
+use_var-requires-clause-declared g c = Conditions.declared-there c.args.builder.now c.args.types.now c.args.builder.now.ctx.now.parts.variables c.args.variable c.requires.types (sym c.may_use.ensures ∙ c.if-not-may_use.false)
 
 pub returns-in_err-value : goal.returns-in_err-value
-returns-in_err-value c =
+returns-in_err-value g c =
     let done = c.use_var.ensures in
     let p = err_from_is_err_and c.from_residual.result c.from_residual.ensures.1 in
     made-refused c.args.builder.now c.use_var.new.self c.args.answers.now c.use_var.result c.in_err-value.field-0.0 p.0 c.from_residual.result c.in_err-value.was p.1 p.2 done.call.loans c.requires.sound.sound done.call.failed
-    (λ naming declared calls ready. Conditions.use-same calls c.args.builder.now c.args.answers.now ready c.args.variable ∙ ap (λ (types : List «Type»). can_use c.args.builder.now types c.args.variable) (sym c.requires.types) ∙ sym c.may_use.ensures ∙ c.if-not-may_use.false) (λ full. use-met c.args.builder.now c.use_var.new.self.func.now c.use_var.result c.args.variable (Conditions.declared-there c.args.builder.now c.args.types.now c.args.builder.now.ctx.now.variables c.args.variable c.requires.types (sym c.may_use.ensures ∙ c.if-not-may_use.false)) (Conditions.has-current c.requires.sound.calls c.args.builder.now c.args.answers.now c.requires.sound.ready (and_parts _ _ (sym c.may_use.ensures ∙ c.if-not-may_use.false)).0) done.constructs full done.full)
+    (λ naming declared calls ready. Conditions.use-same calls c.args.builder.now c.args.answers.now ready c.args.variable ∙ ap (λ (types : List «Type»). can_use c.args.builder.now types c.args.variable) (sym c.requires.types) ∙ sym c.may_use.ensures ∙ c.if-not-may_use.false) (λ full. use-met c.args.builder.now c.use_var.new.self.func.now c.use_var.result c.args.variable (Conditions.declared-there c.args.builder.now c.args.types.now c.args.builder.now.ctx.now.parts.variables c.args.variable c.requires.types (sym c.may_use.ensures ∙ c.if-not-may_use.false)) (Conditions.has-current c.requires.sound.calls c.args.builder.now c.args.answers.now c.requires.sound.ready (and_parts _ _ (sym c.may_use.ensures ∙ c.if-not-may_use.false)).0) done.constructs full done.full)
 
 pub returns : goal.returns
-returns c =
+returns g c =
     let done = c.in_ok-value.ensures in
     made-answer c.args.builder.now c.use_var.new.self c.args.answers.now c.one_value.result c.use_var.ensures.call.loans done.grows.3
     (answered-sound _ c.use_var.result _ c.use_var.ensures.call.fails c.in_ok-value.was) c.use_var.ensures.variables

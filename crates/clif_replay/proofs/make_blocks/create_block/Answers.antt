@@ -6,14 +6,14 @@ use Rattle.clif_replay.proofs.ReadyLaws.{ready-more}
 use Rattle.clif_replay.proofs.make_blocks.create_block.Goals as goal
 
 pub returns-in_err-block : goal.returns-in_err-block
-returns-in_err-block c =
+returns-in_err-block g c =
     let done = c.create_block.ensures in
     let p = err_from_is_err_and c.from_residual.result c.from_residual.ensures.1 in
     made-refused c.args.builder.now c.create_block.new.self c.args.answers.now c.create_block.result c.in_err-block.field-0.0 p.0 c.from_residual.result c.in_err-block.was p.1 p.2 done.call.loans c.requires.sound done.call.failed
     (λ naming declared calls ready. refl) done.full
 
 pub returns : goal.returns
-returns c =
+returns g c =
     let done = c.in_ok-block.ensures in
     made-answer c.args.builder.now c.create_block.new.self c.args.answers.now (answer.Block c.in_ok-block.block) c.create_block.ensures.call.loans done.grows.3
     (answered-sound _ c.create_block.result _ c.create_block.ensures.call.fails c.in_ok-block.was) c.create_block.ensures.variables

@@ -10,30 +10,30 @@ use Rattle.clif_replay.proofs.Conditions
 use Rattle.clif_replay.proofs.make_blocks.seal_block.Goals as goal
 
 pub returns-in_default : goal.returns-in_default
-returns-in_default c = made-misuse c.args.builder.now c.args.answers.now (λ naming declared calls ready. Conditions.seal-none calls c.args.builder.now c.args.answers.now ready c.args.name (sym c.block_named.ensures ∙ c.in_default.is))
+returns-in_default g c = made-misuse c.args.builder.now c.args.answers.now (λ naming declared calls ready. Conditions.seal-none calls c.args.builder.now c.args.answers.now ready c.args.name (sym c.block_named.ensures ∙ c.in_default.is))
 
 pub returns-then-not-may_seal : goal.returns-then-not-may_seal
-returns-then-not-may_seal c = made-misuse c.args.builder.now c.args.answers.now (λ naming declared calls ready. Conditions.seal-some calls c.args.builder.now c.args.answers.now ready c.args.name c.in-Some.block (sym c.block_named.ensures ∙ c.in-Some.is) ∙ sym c.may_seal.ensures ∙ c.if-not-may_seal.true)
+returns-then-not-may_seal g c = made-misuse c.args.builder.now c.args.answers.now (λ naming declared calls ready. Conditions.seal-some calls c.args.builder.now c.args.answers.now ready c.args.name c.in-Some.block (sym c.block_named.ensures ∙ c.in-Some.is) ∙ sym c.may_seal.ensures ∙ c.if-not-may_seal.true)
 
 pub seal_block-requires-clause-exists : goal.seal_block-requires-clause-exists
-seal_block-requires-clause-exists c = block-there c.requires.calls c.args.builder.now c.args.answers.now c.requires.ready c.args.name c.in-Some.block (sym c.block_named.ensures ∙ c.in-Some.is)
+seal_block-requires-clause-exists g c = block-there c.requires.calls c.args.builder.now c.args.answers.now c.requires.ready c.args.name c.in-Some.block (sym c.block_named.ensures ∙ c.in-Some.is)
 
 pub seal_block-requires-clause-unsealed : goal.seal_block-requires-clause-unsealed
-seal_block-requires-clause-unsealed c = not-true (is_yes (sealed_of c.args.builder.now.ctx.now.ssa c.in-Some.block)) (sym c.may_seal.ensures ∙ c.if-not-may_seal.false)
+seal_block-requires-clause-unsealed g c = not-true (is_yes (sealed_of c.args.builder.now.ctx.now.parts.ssa c.in-Some.block)) (sym c.may_seal.ensures ∙ c.if-not-may_seal.false)
 
 pub returns-in_err-seal_block : goal.returns-in_err-seal_block
-returns-in_err-seal_block c =
+returns-in_err-seal_block g c =
     let done = c.seal_block.ensures in
     let p = err_from_is_err_and c.from_residual.result c.from_residual.ensures.1 in
     made-refused c.args.builder.now c.seal_block.new.self c.args.answers.now c.seal_block.result c.in_err-seal_block.field-0.0 p.0 c.from_residual.result c.in_err-seal_block.was p.1 p.2 done.call.loans c.requires.sound done.call.failed
     (λ naming declared calls ready. Conditions.seal-some calls c.args.builder.now c.args.answers.now ready c.args.name c.in-Some.block (sym c.block_named.ensures ∙ c.in-Some.is) ∙ sym c.may_seal.ensures ∙ c.if-not-may_seal.false) (λ full. (
       c.seal_block.new.self.func.now,
       done.constructs,
-      one-block c.args.builder.now.func.now c.seal_block.new.self.func.now c.args.builder.now.ctx.now.ssa c.in-Some.block (block-there c.requires.calls c.args.builder.now c.args.answers.now c.requires.ready c.args.name c.in-Some.block (sym c.block_named.ensures ∙ c.in-Some.is)) (done.full full),
+      one-block c.args.builder.now.func.now c.seal_block.new.self.func.now c.args.builder.now.ctx.now.parts.ssa c.in-Some.block (block-there c.requires.calls c.args.builder.now c.args.answers.now c.requires.ready c.args.name c.in-Some.block (sym c.block_named.ensures ∙ c.in-Some.is)) (done.full full),
     ))
 
 pub returns : goal.returns
-returns c =
+returns g c =
     let done = c.in_ok-seal_block.ensures in
     made-answer c.args.builder.now c.seal_block.new.self c.args.answers.now answer.Nothing c.seal_block.ensures.call.loans done.grows.3
     (answered-sound _ c.seal_block.result _ c.seal_block.ensures.call.fails c.in_ok-seal_block.was) c.seal_block.ensures.variables

@@ -7,13 +7,13 @@ use Rattle.clif_replay.proofs.Placements.{cold-none, cold-some}
 use Rattle.clif_replay.proofs.make_blocks.set_cold_block.Goals as goal
 
 pub returns-in_default : goal.returns-in_default
-returns-in_default c = made-misuse c.args.builder.now c.args.answers.now (λ naming declared calls ready. cold-none calls c.args.builder.now c.args.answers.now ready c.args.name (sym c.block_named.ensures ∙ c.in_default.is))
+returns-in_default g c = made-misuse c.args.builder.now c.args.answers.now (λ naming declared calls ready. cold-none calls c.args.builder.now c.args.answers.now ready c.args.name (sym c.block_named.ensures ∙ c.in_default.is))
 
 pub set_cold_block-requires : goal.set_cold_block-requires
-set_cold_block-requires c = record { exists = block-there c.requires.calls c.args.builder.now c.args.answers.now c.requires.ready c.args.name c.in-Some.block (sym c.block_named.ensures ∙ c.in-Some.is) }
+set_cold_block-requires g c = record { exists = block-there c.requires.calls c.args.builder.now c.args.answers.now c.requires.ready c.args.name c.in-Some.block (sym c.block_named.ensures ∙ c.in-Some.is) }
 
 pub returns : goal.returns
-returns c =
+returns g c =
     let done = c.set_cold_block.ensures in
     let new = c.set_cold_block.new.self in
     made-answer c.args.builder.now new c.args.answers.now answer.Nothing done.loans done.grows.3 (done.failed ∙ c.requires.sound) (ap (λ (x : ContextState). x.variables) done.context)

@@ -12,16 +12,16 @@ use Rattle.clif_replay.proofs.Constants.{constant-allowed, constant-count, const
 use Rattle.clif_replay.proofs.make_constants.make_constant.Goals as goal
 
 pub pool-requires : goal.pool-requires
-pool-requires c =
+pool-requires g c =
     has-current c.requires.sound.calls c.args.builder.now c.args.answers.now c.requires.sound.ready (sym c.has_current.ensures ∙ c.if-not-has_current.false)
 
 pub returns-then-not-has_current : goal.returns-then-not-has_current
-returns-then-not-has_current c =
+returns-then-not-has_current g c =
     made-misuse c.args.builder.now c.args.answers.now (λ naming declared calls ready. pooled-same calls c.args.builder.now c.args.answers.now ready c.args.opcode c.args.ty c.args.bytes.now
     ∙ ap (λ (opens : Bool). opens && has_bytes c.args.opcode c.args.ty c.args.bytes.now) (sym c.has_current.ensures ∙ c.if-not-has_current.true))
 
 pub returns-in_err-constant : goal.returns-in_err-constant
-returns-in_err-constant c =
+returns-in_err-constant g c =
     let done = c.pool.ensures in
     let p = err_from_is_err_and c.from_residual.result c.from_residual.ensures.1 in
     made-refused c.args.builder.now c.pool.new.builder c.args.answers.now c.pool.result c.in_err-constant.field-0.0 p.0 c.from_residual.result c.in_err-constant.was p.1 p.2
@@ -31,7 +31,7 @@ returns-in_err-constant c =
     (λ full. let met = done.full.0 full in inl (met.1, met.2))
 
 pub returns-in_err-inst : goal.returns-in_err-inst
-returns-in_err-inst c =
+returns-in_err-inst g c =
     let pooled = c.in_ok-constant.ensures in
     let between = c.pool.new.builder in
     let done = c.append.ensures in
@@ -46,7 +46,7 @@ returns-in_err-inst c =
     (λ full. full-either between.func.now (done.full_table (constant-count between.func.now.tables c.args.opcode c.in_ok-constant.constant) full)))
 
 pub returns : goal.returns
-returns c =
+returns g c =
     let pooled = c.in_ok-constant.ensures in
     let between = c.pool.new.builder in
     let done = c.in_ok-inst.ensures in

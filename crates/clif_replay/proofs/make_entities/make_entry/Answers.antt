@@ -22,7 +22,7 @@ use Rattle.clif_replay.proofs.ReadyLaws.{ready-more}
 use Rattle.clif_replay.proofs.make_entities.make_entry.Goals as goal
 
 pub returns-in_err-entry : goal.returns-in_err-entry
-returns-in_err-entry c =
+returns-in_err-entry g c =
     let b = c.args.builder.now in
     let answers = c.args.answers.now in
     let p = err_from_is_err_and c.from_residual.result c.from_residual.ensures.1 in
@@ -31,12 +31,12 @@ returns-in_err-entry c =
     (λ none naming declared calls ready. entry-same calls b answers ready (entry_in (numbers_at b.func.now answers) c.args.call.now) ∙ none))
 
 pub append-requires : goal.append-requires
-append-requires c =
+append-requires g c =
     let found = c.in_ok-entry.ensures in
     ap (can_make c.args.builder.now.func.now.tables) found.found ∙ found.may
 
 pub returns-in_err-made : goal.returns-in_err-made
-returns-in_err-made c =
+returns-in_err-made g c =
     let old = c.args.builder.now in
     let new = c.append.new.builder in
     let answers = c.args.answers.now in
@@ -53,7 +53,7 @@ returns-in_err-made c =
     (λ full. sym (same-table old.func.now.tables (numbers_at old.func.now answers) c.args.call.now) ∙ (done.full.0 full).1))
 
 pub returns : goal.returns
-returns c =
+returns g c =
     let old = c.args.builder.now in
     let new = c.append.new.builder in
     let answers = c.args.answers.now in

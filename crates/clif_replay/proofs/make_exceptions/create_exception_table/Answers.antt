@@ -20,7 +20,7 @@ use Rattle.clif_replay.proofs.Throwing.{exceptions-ready, exceptions-same, excep
 use Rattle.clif_replay.proofs.make_exceptions.create_exception_table.Goals as goal
 
 pub returns-in_err-normal : goal.returns-in_err-normal
-returns-in_err-normal c =
+returns-in_err-normal g c =
     let p = err_from_is_err_and c.from_residual.result c.from_residual.ensures.1 in
     let b = c.args.builder.now in
     let answers = c.args.answers.now in
@@ -31,12 +31,12 @@ returns-in_err-normal c =
     ∙ ap (λ (test : Bool). test && all_items b.func.now answers c.args.items.now && nat_lt (numbers_at b.func.now answers Signatures c.args.signature) (length b.func.now.tables.signatures)) none))
 
 pub items_found-requires : goal.items_found-requires
-items_found-requires c =
+items_found-requires g c =
     subst (λ (f : Body). AnswersExist f c.args.answers.now) (sym c.func-2.ensures)
     (answers-exist c.requires.calls c.args.builder.now c.args.answers.now c.requires.ready)
 
 pub returns-in_err-items : goal.returns-in_err-items
-returns-in_err-items c =
+returns-in_err-items g c =
     let p = err_from_is_err_and c.from_residual-in_err-items.result c.from_residual-in_err-items.ensures.1 in
     let b = c.args.builder.now in
     let answers = c.args.answers.now in
@@ -50,7 +50,7 @@ returns-in_err-items c =
     done.never_refused done.never_full)
 
 pub returns-in_default : goal.returns-in_default
-returns-in_default c =
+returns-in_default g c =
     let b = c.args.builder.now in
     let answers = c.args.answers.now in
     let none = number-missing b.func.now answers Signatures c.args.signature (sym c.signature_named.ensures ∙ c.in_default.is) in
@@ -61,7 +61,7 @@ returns-in_default c =
     (ap (λ (n : ℕ). nat_lt n (length b.func.now.tables.signatures)) none ∙ none-below (length b.func.now.tables.signatures))))
 
 pub returns-then-not-has_signature : goal.returns-then-not-has_signature
-returns-then-not-has_signature c =
+returns-then-not-has_signature g c =
     let b = c.args.builder.now in
     let answers = c.args.answers.now in
     let is = number-found b.func.now answers Signatures c.args.signature c.in-Some.sig (sym c.signature_named.ensures ∙ c.in-Some.is) in
@@ -72,11 +72,11 @@ returns-then-not-has_signature c =
     (ap (λ (n : ℕ). nat_lt n (length b.func.now.tables.signatures)) is ∙ sym c.has_signature.ensures ∙ c.if-not-has_signature.true)))
 
 pub create_exception_table-requires : goal.create_exception_table-requires
-create_exception_table-requires c =
+create_exception_table-requires g c =
     record { imported = ltb-true c.in-Some.sig (length c.args.builder.now.func.now.tables.signatures) (sym c.has_signature.ensures ∙ c.if-not-has_signature.false) }
 
 pub returns-in_err-made : goal.returns-in_err-made
-returns-in_err-made c =
+returns-in_err-made g c =
     let b = c.args.builder.now in
     let answers = c.args.answers.now in
     let is = number-found b.func.now answers Signatures c.args.signature c.in-Some.sig (sym c.signature_named.ensures ∙ c.in-Some.is) in
@@ -94,7 +94,7 @@ returns-in_err-made c =
     (λ full. (done.full.0 full).1))
 
 pub returns : goal.returns
-returns c =
+returns g c =
     let b = c.args.builder.now in
     let new = c.create_exception_table.new.self in
     let answers = c.args.answers.now in

@@ -4,8 +4,8 @@ use Rattle.clif_builder.specs.Entries.{TakesExceptionTable}
 use Rattle.clif_replay.proofs.make_exceptions.take.Goals as goal
 
 pub returns : goal.returns
-returns c =
-    subst (λ (new : FunctionBuilder). TakesExceptionTable c.args.builder.now new c.args.table c.take_exception_table.result)
+returns g c =
+    subst (λ (new : FunctionBuilder _). TakesExceptionTable c.args.builder.now new c.args.table c.take_exception_table.result)
     (sym (c.builder-1.given.1 (sym c.ins.ensures.same)))
-    (subst (λ (old : FunctionBuilder). TakesExceptionTable old c.take_exception_table.new.self c.args.table c.take_exception_table.result)
+    (subst (λ (old : FunctionBuilder _). TakesExceptionTable old c.take_exception_table.new.self c.args.table c.take_exception_table.result)
     c.ins.ensures.builder c.take_exception_table.ensures.taken)

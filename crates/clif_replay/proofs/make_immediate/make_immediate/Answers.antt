@@ -18,35 +18,35 @@ use Rattle.clif_replay.proofs.ReadyLaws.{answers-exist, value-exists}
 use Rattle.clif_replay.proofs.make_immediate.make_immediate.Goals as goal
 
 pub value_named-requires : goal.value_named-requires
-value_named-requires c = λ i inside.
+value_named-requires g c = λ i inside.
     subst (λ (f : Body). AnswerExists f (slice_index_or c.args.answers.now i answer.Nothing)) (sym c.func.ensures)
     (answers-exist c.requires.calls c.args.builder.now c.args.answers.now c.requires.ready i inside)
 
 pub returns-in_default : goal.returns-in_default
-returns-in_default c =
+returns-in_default g c =
     emission-misused c.args.call c.args.builder.now c.args.answers.now (none-judged c.args.call c.args.builder.now c.args.answers.now
     (ap (value_of c.args.builder.now.func.now c.args.answers.now) (sym c.operand_in-name.ensures)
     ∙ ap (λ (f : Body). value_of f c.args.answers.now c.operand_in-name.result) (sym c.func.ensures) ∙ sym c.value_named.ensures ∙ c.in_default.is))
 
 pub may_take_constant-requires : goal.may_take_constant-requires
-may_take_constant-requires c =
+may_take_constant-requires g c =
     value-exists c.requires.calls c.args.builder.now c.args.answers.now c.requires.ready (operand_in c.args.call) c.in-Some.x
     (ap (value_of c.args.builder.now.func.now c.args.answers.now) (sym c.operand_in-name.ensures)
     ∙ ap (λ (f : Body). value_of f c.args.answers.now c.operand_in-name.result) (sym c.func.ensures) ∙ sym c.value_named.ensures ∙ c.in-Some.is)
 
 pub returns-then-not-may_take_constant : goal.returns-then-not-may_take_constant
-returns-then-not-may_take_constant c =
+returns-then-not-may_take_constant g c =
     emission-misused c.args.call c.args.builder.now c.args.answers.now (some-denied c.args.call c.args.builder.now c.args.answers.now c.in-Some.x
     (ap (value_of c.args.builder.now.func.now c.args.answers.now) (sym c.operand_in-name.ensures)
     ∙ ap (λ (f : Body). value_of f c.args.answers.now c.operand_in-name.result) (sym c.func.ensures) ∙ sym c.value_named.ensures ∙ c.in-Some.is)
     (sym c.may_take_constant.ensures ∙ c.if-not-may_take_constant.true))
 
 pub emit-requires-clause-current : goal.emit-requires-clause-current
-emit-requires-clause-current c =
+emit-requires-clause-current g c =
     has-current c.requires.calls c.args.builder.now c.args.answers.now c.requires.ready (and_parts _ _ (sym c.may_take_constant.ensures ∙ c.if-not-may_take_constant.false)).0
 
 pub returns-in_err-value : goal.returns-in_err-value
-returns-in_err-value c =
+returns-in_err-value g c =
     let old = c.args.builder.now in
     let can = sym c.may_take_constant.ensures ∙ c.if-not-may_take_constant.false in
     let current = has-current c.requires.calls old c.args.answers.now c.requires.ready (and_parts _ _ can).0 in
@@ -59,7 +59,7 @@ returns-in_err-value c =
     (some-allowed c.args.call old c.args.answers.now c.in-Some.x found can c.emit.ensures.number)
 
 pub returns : goal.returns
-returns c =
+returns g c =
     let old = c.args.builder.now in
     let new = c.emit.new.builder in
     let value = c.in_ok-value.value in

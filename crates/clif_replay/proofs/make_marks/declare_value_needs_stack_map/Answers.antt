@@ -11,38 +11,38 @@ use Rattle.clif_replay.proofs.ReadyLaws.{answers-exist, ready-more, value-exists
 use Rattle.clif_replay.proofs.make_marks.declare_value_needs_stack_map.Goals as goal
 
 pub value_named-requires : goal.value_named-requires
-value_named-requires c = λ i inside.
+value_named-requires g c = λ i inside.
     subst (λ (f : Body). AnswerExists f (slice_index_or c.args.answers.now i answer.Nothing)) (sym c.func.ensures) (answers-exist c.requires.calls c.args.builder.now c.args.answers.now c.requires.ready i inside)
 
 pub returns-in_default : goal.returns-in_default
-returns-in_default c =
+returns-in_default g c =
     made-misuse c.args.builder.now c.args.answers.now (λ naming declared calls ready. record-none calls c.args.builder.now c.args.answers.now ready c.args.name
     (ap (λ (f : Body). value_of f c.args.answers.now c.args.name) (sym c.func.ensures) ∙ sym c.value_named.ensures ∙ c.in_default.is))
 
 pub may_record-requires : goal.may_record-requires
-may_record-requires c =
+may_record-requires g c =
     value-exists c.requires.calls c.args.builder.now c.args.answers.now c.requires.ready c.args.name c.in-Some.value
     (ap (λ (f : Body). value_of f c.args.answers.now c.args.name) (sym c.func.ensures) ∙ sym c.value_named.ensures ∙ c.in-Some.is)
 
 pub record_fault-requires : goal.record_fault-requires
-record_fault-requires c =
+record_fault-requires g c =
     value-exists c.requires.calls c.args.builder.now c.args.answers.now c.requires.ready c.args.name c.in-Some.value
     (ap (λ (f : Body). value_of f c.args.answers.now c.args.name) (sym c.func.ensures) ∙ sym c.value_named.ensures ∙ c.in-Some.is)
 
 pub returns-then-not-may_record : goal.returns-then-not-may_record
-returns-then-not-may_record c =
+returns-then-not-may_record g c =
     made-misuse c.args.builder.now c.args.answers.now (λ naming declared calls ready. record-some calls c.args.builder.now c.args.answers.now ready c.args.name c.in-Some.value
     (ap (λ (f : Body). value_of f c.args.answers.now c.args.name) (sym c.func.ensures) ∙ sym c.value_named.ensures ∙ c.in-Some.is)
     ∙ sym c.may_record.ensures ∙ c.if-not-may_record.true)
 
 pub declare_value_needs_stack_map-requires : goal.declare_value_needs_stack_map-requires
-declare_value_needs_stack_map-requires c =
+declare_value_needs_stack_map-requires g c =
     record-fits c.requires.calls c.args.builder.now c.args.answers.now c.requires.ready c.args.name c.in-Some.value
     (ap (λ (f : Body). value_of f c.args.answers.now c.args.name) (sym c.func.ensures) ∙ sym c.value_named.ensures ∙ c.in-Some.is)
     (sym c.may_record.ensures ∙ c.if-not-may_record.false)
 
 pub returns-in_err-declare_value_needs_stack_map : goal.returns-in_err-declare_value_needs_stack_map
-returns-in_err-declare_value_needs_stack_map c =
+returns-in_err-declare_value_needs_stack_map g c =
     let old = c.args.builder.now in
     let done = c.declare_value_needs_stack_map.ensures in
     let p = err_from_is_err_and c.from_residual.result c.from_residual.ensures.1 in
@@ -54,7 +54,7 @@ returns-in_err-declare_value_needs_stack_map c =
     done.records.never_full
 
 pub returns : goal.returns
-returns c =
+returns g c =
     let old = c.args.builder.now in
     let new = c.declare_value_needs_stack_map.new.self in
     let done = c.in_ok-declare_value_needs_stack_map.ensures in

@@ -8,20 +8,20 @@ use Rattle.clif_replay.proofs.ReadyLaws.{ready-more}
 use Rattle.clif_replay.proofs.make_marks.declare_var_needs_stack_map.Goals as goal
 
 pub returns-then-not-may_mark : goal.returns-then-not-may_mark
-returns-then-not-may_mark c =
+returns-then-not-may_mark g c =
     made-misuse c.args.builder.now c.args.answers.now (λ naming declared calls ready.
     mark-same calls c.args.builder.now c.args.answers.now ready c.args.variable ∙ sym c.may_mark.ensures ∙ c.if-not-may_mark.true)
 
 pub declare_var_needs_stack_map-requires-clause-fits : goal.declare_var_needs_stack_map-requires-clause-fits
-declare_var_needs_stack_map-requires-clause-fits c =
+declare_var_needs_stack_map-requires-clause-fits g c =
     mark-fits c.args.builder.now c.args.variable (sym c.may_mark.ensures ∙ c.if-not-may_mark.false)
 
 pub declare_var_needs_stack_map-requires-clause-unused : goal.declare_var_needs_stack_map-requires-clause-unused
-declare_var_needs_stack_map-requires-clause-unused c =
+declare_var_needs_stack_map-requires-clause-unused g c =
     mark-unused c.requires.calls c.args.builder.now c.args.answers.now c.requires.ready c.args.variable (sym c.may_mark.ensures ∙ c.if-not-may_mark.false)
 
 pub returns-in_err-declare_var_needs_stack_map : goal.returns-in_err-declare_var_needs_stack_map
-returns-in_err-declare_var_needs_stack_map c =
+returns-in_err-declare_var_needs_stack_map g c =
     let old = c.args.builder.now in
     let done = c.declare_var_needs_stack_map.ensures in
     let p = err_from_is_err_and c.from_residual.result c.from_residual.ensures.1 in
@@ -31,7 +31,7 @@ returns-in_err-declare_var_needs_stack_map c =
     done.marks.never_full
 
 pub returns : goal.returns
-returns c =
+returns g c =
     let old = c.args.builder.now in
     let new = c.declare_var_needs_stack_map.new.self in
     let done = c.in_ok-declare_var_needs_stack_map.ensures in

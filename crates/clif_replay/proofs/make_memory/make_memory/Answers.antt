@@ -14,36 +14,36 @@ use Rattle.clif_replay.proofs.ReadyLaws.{answers-exist, value-exists}
 use Rattle.clif_replay.proofs.make_memory.make_memory.Goals as goal
 
 pub operands_of-requires : goal.operands_of-requires
-operands_of-requires c = λ i inside.
+operands_of-requires g c = λ i inside.
     subst (λ (f : Body). AnswerExists f (slice_index_or c.args.answers.now i answer.Nothing)) (sym c.func.ensures)
     (answers-exist c.requires.calls c.args.builder.now c.args.answers.now c.requires.ready i inside)
 
 pub returns-in-Err : goal.returns-in-Err
-returns-in-Err c =
+returns-in-Err g c =
     helper-misused c.args.config c.args.call.now _ c.args.builder.now c.args.answers.now
     (missing-judged c.args.config c.args.call.now c.args.builder.now c.args.answers.now
     (subst (λ (f : Body). all_values f c.args.answers.now (operands_in c.args.call.now) ≡ false) c.func.ensures c.in-Err.ensures.missing))
 
 pub may_help-requires : goal.may_help-requires
-may_help-requires c =
+may_help-requires g c =
     let named = subst (λ (f : Body). IsNamed f c.args.answers.now c.in-Ok.operands.second) c.func.ensures c.in-Ok.ensures.named in
     value-exists c.requires.calls c.args.builder.now c.args.answers.now c.requires.ready named.0 c.in-Ok.operands.second named.1
 
 pub returns-then-not-may_help : goal.returns-then-not-may_help
-returns-then-not-may_help c =
+returns-then-not-may_help g c =
     let b = c.args.builder.now in
     let found = subst (λ (f : Body). AreOperands f c.args.answers.now c.args.call.now c.in-Ok.operands) c.func.ensures c.in-Ok.ensures.found in
     helper-misused c.args.config c.args.call.now _ b c.args.answers.now
     (denied-judged c.args.config c.args.call.now b c.args.answers.now c.in-Ok.operands found (sym c.may_help.ensures ∙ c.if-not-may_help.true))
 
 pub help-requires : goal.help-requires
-help-requires c =
+help-requires g c =
     let b = c.args.builder.now in
     let found = subst (λ (f : Body). AreOperands f c.args.answers.now c.args.call.now c.in-Ok.operands) c.func.ensures c.in-Ok.ensures.found in
     may-help c.args.config c.args.call.now b c.args.answers.now c.in-Ok.operands found c.requires.calls c.requires.ready (sym c.may_help.ensures ∙ c.if-not-may_help.false)
 
 pub returns-in_err-answer : goal.returns-in_err-answer
-returns-in_err-answer c =
+returns-in_err-answer g c =
     let old = c.args.builder.now in
     let new = c.help.new.builder in
     let found = subst (λ (f : Body). AreOperands f c.args.answers.now c.args.call.now c.in-Ok.operands) c.func.ensures c.in-Ok.ensures.found in
@@ -55,7 +55,7 @@ returns-in_err-answer c =
     (allowed-judged c.args.config c.args.call.now old c.args.answers.now c.in-Ok.operands found can c.help.ensures.sized))
 
 pub returns : goal.returns
-returns c =
+returns g c =
     let old = c.args.builder.now in
     let new = c.help.new.builder in
     let found = subst (λ (f : Body). AreOperands f c.args.answers.now c.args.call.now c.in-Ok.operands) c.func.ensures c.in-Ok.ensures.found in

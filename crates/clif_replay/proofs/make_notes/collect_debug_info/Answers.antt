@@ -6,7 +6,7 @@ use Rattle.clif_replay.proofs.Notes.{note-ready}
 use Rattle.clif_replay.proofs.make_notes.collect_debug_info.Goals as goal
 
 pub returns-clause-made : goal.returns-clause-made
-returns-clause-made c =
+returns-clause-made g c =
     let old = c.args.builder.now in
     let new = c.collect_debug_info.new.self in
     let done = c.collect_debug_info.ensures in

@@ -11,22 +11,22 @@ use Rattle.clif_replay.proofs.ReadyLaws.{answers-exist, value-exists}
 use Rattle.clif_replay.proofs.make_notes.set_val_label.Goals as goal
 
 pub value_named-requires : goal.value_named-requires
-value_named-requires c = λ i inside.
+value_named-requires g c = λ i inside.
     subst (λ (f : Body). AnswerExists f (slice_index_or c.args.answers.now i answer.Nothing)) (sym c.func.ensures) (answers-exist c.requires.calls c.args.builder.now c.args.answers.now c.requires.ready i inside)
 
 pub returns-in_default-clause-made : goal.returns-in_default-clause-made
-returns-in_default-clause-made c =
+returns-in_default-clause-made g c =
     made-misuse c.args.builder.now c.args.answers.now (λ naming declared calls ready. note-none calls c.args.builder.now c.args.answers.now ready c.args.name
     (ap (λ (f : Body). value_of f c.args.answers.now c.args.name) (sym c.func.ensures) ∙ sym c.value_named.ensures ∙ c.in_default.is))
 
 pub set_val_label-requires : goal.set_val_label-requires
-set_val_label-requires c = record {
+set_val_label-requires g c = record {
   exists = value-exists c.requires.calls c.args.builder.now c.args.answers.now c.requires.ready c.args.name c.in-Some.value
       (ap (λ (f : Body). value_of f c.args.answers.now c.args.name) (sym c.func.ensures) ∙ sym c.value_named.ensures ∙ c.in-Some.is);
 }
 
 pub returns-in_err-set_val_label-clause-made : goal.returns-in_err-set_val_label-clause-made
-returns-in_err-set_val_label-clause-made c =
+returns-in_err-set_val_label-clause-made g c =
     let old = c.args.builder.now in
     let done = c.set_val_label.ensures in
     let p = err_from_is_err_and c.from_residual.result c.from_residual.ensures.1 in
@@ -37,7 +37,7 @@ returns-in_err-set_val_label-clause-made c =
     done.never_full
 
 pub returns-clause-made : goal.returns-clause-made
-returns-clause-made c =
+returns-clause-made g c =
     let old = c.args.builder.now in
     let new = c.set_val_label.new.self in
     let done = c.in_ok-set_val_label.ensures in
@@ -49,7 +49,7 @@ returns-clause-made c =
     (λ naming declared calls ready. note-ready c.notes_add_nothing.ensures calls old new c.args.answers.now false _ ready (done.sets.stands declared calls ready.stands) (done.grows.6, done.grows.8))
 
 pub returns-clause-labels : goal.returns-clause-labels
-returns-clause-labels c = (
+returns-clause-labels g c = (
   c.in-Some.value,
   ap (λ (f : Body). value_of f c.args.answers.now c.args.name) (sym c.func.ensures) ∙ sym c.value_named.ensures ∙ c.in-Some.is,
   c.in_ok-set_val_label.ensures.sets.function,

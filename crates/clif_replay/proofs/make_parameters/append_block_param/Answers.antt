@@ -11,26 +11,26 @@ use Rattle.clif_replay.proofs.Conditions
 use Rattle.clif_replay.proofs.make_parameters.append_block_param.Goals as goal
 
 pub returns-in_default : goal.returns-in_default
-returns-in_default c = made-misuse c.args.builder.now c.args.answers.now (λ naming declared calls ready. Conditions.append-none calls c.args.builder.now c.args.answers.now ready c.args.name (c.args.ty ∷ []) (sym c.block_named.ensures ∙ c.in_default.is))
+returns-in_default g c = made-misuse c.args.builder.now c.args.answers.now (λ naming declared calls ready. Conditions.append-none calls c.args.builder.now c.args.answers.now ready c.args.name (c.args.ty ∷ []) (sym c.block_named.ensures ∙ c.in_default.is))
 
 pub returns-then-not-may_append : goal.returns-then-not-may_append
-returns-then-not-may_append c = made-misuse c.args.builder.now c.args.answers.now (λ naming declared calls ready. Conditions.append-some calls c.args.builder.now c.args.answers.now ready c.args.name c.in-Some.block (c.args.ty ∷ []) (sym c.block_named.ensures ∙ c.in-Some.is) ∙ sym c.may_append.ensures ∙ c.if-not-may_append.true)
+returns-then-not-may_append g c = made-misuse c.args.builder.now c.args.answers.now (λ naming declared calls ready. Conditions.append-some calls c.args.builder.now c.args.answers.now ready c.args.name c.in-Some.block (c.args.ty ∷ []) (sym c.block_named.ensures ∙ c.in-Some.is) ∙ sym c.may_append.ensures ∙ c.if-not-may_append.true)
 
 pub append_block_param-requires-clause-exists : goal.append_block_param-requires-clause-exists
-append_block_param-requires-clause-exists c = block-there c.requires.calls c.args.builder.now c.args.answers.now c.requires.ready c.args.name c.in-Some.block (sym c.block_named.ensures ∙ c.in-Some.is)
+append_block_param-requires-clause-exists g c = block-there c.requires.calls c.args.builder.now c.args.answers.now c.requires.ready c.args.name c.in-Some.block (sym c.block_named.ensures ∙ c.in-Some.is)
 
 pub append_block_param-requires-clause-pristine : goal.append_block_param-requires-clause-pristine
-append_block_param-requires-clause-pristine c = Conditions.empty-is (status_of c.args.builder.now.ctx.now c.in-Some.block) (sym c.may_append.ensures ∙ c.if-not-may_append.false)
+append_block_param-requires-clause-pristine g c = Conditions.empty-is (status_of c.args.builder.now.ctx.now.parts c.in-Some.block) (sym c.may_append.ensures ∙ c.if-not-may_append.false)
 
 pub returns-in_err-value : goal.returns-in_err-value
-returns-in_err-value c =
+returns-in_err-value g c =
     let done = c.append_block_param.ensures in
     let p = err_from_is_err_and c.from_residual.result c.from_residual.ensures.1 in
     made-refused c.args.builder.now c.append_block_param.new.self c.args.answers.now c.append_block_param.result c.in_err-value.field-0.0 p.0 c.from_residual.result c.in_err-value.was p.1 p.2 done.call.loans c.requires.sound done.call.failed
     (λ naming declared calls ready. Conditions.append-some calls c.args.builder.now c.args.answers.now ready c.args.name c.in-Some.block (c.args.ty ∷ []) (sym c.block_named.ensures ∙ c.in-Some.is) ∙ sym c.may_append.ensures ∙ c.if-not-may_append.false) done.full
 
 pub returns : goal.returns
-returns c =
+returns g c =
     let done = c.in_ok-value.ensures in
     made-answer c.args.builder.now c.append_block_param.new.self c.args.answers.now c.one_value.result c.append_block_param.ensures.call.loans done.grows.3
     (answered-sound _ c.append_block_param.result _ c.append_block_param.ensures.call.fails c.in_ok-value.was) (ap (λ (x : ContextState). x.variables) c.append_block_param.ensures.context)

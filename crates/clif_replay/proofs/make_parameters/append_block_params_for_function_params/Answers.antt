@@ -17,39 +17,39 @@ use Rattle.clif_replay.proofs.Conditions
 use Rattle.clif_replay.proofs.make_parameters.append_block_params_for_function_params.Goals as goal
 
 pub returns-in_default : goal.returns-in_default
-returns-in_default c = made-misuse c.args.builder.now c.args.answers.now (λ naming declared calls ready. Conditions.function-params-none calls c.args.builder.now c.args.answers.now ready c.args.name (types_of declared.params) (sym c.block_named.ensures ∙ c.in_default.is))
+returns-in_default g c = made-misuse c.args.builder.now c.args.answers.now (λ naming declared calls ready. Conditions.function-params-none calls c.args.builder.now c.args.answers.now ready c.args.name (types_of declared.params) (sym c.block_named.ensures ∙ c.in_default.is))
 
 pub returns-then-not-may_append_function_params : goal.returns-then-not-may_append_function_params
-returns-then-not-may_append_function_params c = made-misuse c.args.builder.now c.args.answers.now (λ naming declared calls ready. Conditions.function-params-some calls c.args.builder.now c.args.answers.now ready c.args.name c.in-Some.block (types_of declared.params) (sym c.block_named.ensures ∙ c.in-Some.is) ∙ sym c.may_append_function_params.ensures ∙ c.if-not-may_append_function_params.true)
+returns-then-not-may_append_function_params g c = made-misuse c.args.builder.now c.args.answers.now (λ naming declared calls ready. Conditions.function-params-some calls c.args.builder.now c.args.answers.now ready c.args.name c.in-Some.block (types_of declared.params) (sym c.block_named.ensures ∙ c.in-Some.is) ∙ sym c.may_append_function_params.ensures ∙ c.if-not-may_append_function_params.true)
 
 pub append_block_params_for_function_params-requires-clause-exists : goal.append_block_params_for_function_params-requires-clause-exists
-append_block_params_for_function_params-requires-clause-exists c = block-there c.requires.calls c.args.builder.now c.args.answers.now c.requires.ready c.args.name c.in-Some.block (sym c.block_named.ensures ∙ c.in-Some.is)
+append_block_params_for_function_params-requires-clause-exists g c = block-there c.requires.calls c.args.builder.now c.args.answers.now c.requires.ready c.args.name c.in-Some.block (sym c.block_named.ensures ∙ c.in-Some.is)
 
 pub append_block_params_for_function_params-requires-clause-pristine : goal.append_block_params_for_function_params-requires-clause-pristine
-append_block_params_for_function_params-requires-clause-pristine c =
-    let parts = and_parts (can_append c.args.builder.now c.in-Some.block) (is_nothing (predecessors_of c.args.builder.now.ctx.now.ssa c.in-Some.block)) (sym c.may_append_function_params.ensures ∙ c.if-not-may_append_function_params.false) in
-    Conditions.empty-is (status_of c.args.builder.now.ctx.now c.in-Some.block) parts.0
+append_block_params_for_function_params-requires-clause-pristine g c =
+    let parts = and_parts (can_append c.args.builder.now c.in-Some.block) (is_nothing (predecessors_of c.args.builder.now.ctx.now.parts.ssa c.in-Some.block)) (sym c.may_append_function_params.ensures ∙ c.if-not-may_append_function_params.false) in
+    Conditions.empty-is (status_of c.args.builder.now.ctx.now.parts c.in-Some.block) parts.0
 
 pub append_block_params_for_function_params-requires-clause-alone : goal.append_block_params_for_function_params-requires-clause-alone
-append_block_params_for_function_params-requires-clause-alone c =
-    let parts = and_parts (can_append c.args.builder.now c.in-Some.block) (is_nothing (predecessors_of c.args.builder.now.ctx.now.ssa c.in-Some.block)) (sym c.may_append_function_params.ensures ∙ c.if-not-may_append_function_params.false) in
-    Conditions.nothing-is (predecessors_of c.args.builder.now.ctx.now.ssa c.in-Some.block) parts.1
+append_block_params_for_function_params-requires-clause-alone g c =
+    let parts = and_parts (can_append c.args.builder.now c.in-Some.block) (is_nothing (predecessors_of c.args.builder.now.ctx.now.parts.ssa c.in-Some.block)) (sym c.may_append_function_params.ensures ∙ c.if-not-may_append_function_params.false) in
+    Conditions.nothing-is (predecessors_of c.args.builder.now.ctx.now.parts.ssa c.in-Some.block) parts.1
 
 pub returns-in_err-append_block_params_for_function_params : goal.returns-in_err-append_block_params_for_function_params
-returns-in_err-append_block_params_for_function_params c =
+returns-in_err-append_block_params_for_function_params g c =
     let done = c.append_block_params_for_function_params.ensures in
     let p = err_from_is_err_and c.from_residual.result c.from_residual.ensures.1 in
     made-refused c.args.builder.now c.append_block_params_for_function_params.new.self c.args.answers.now c.append_block_params_for_function_params.result c.in_err-append_block_params_for_function_params.field-0.0 p.0 c.from_residual.result c.in_err-append_block_params_for_function_params.was p.1 p.2 done.call.loans c.requires.sound done.call.failed
     (λ naming declared calls ready. Conditions.function-params-some calls c.args.builder.now c.args.answers.now ready c.args.name c.in-Some.block (types_of declared.params) (sym c.block_named.ensures ∙ c.in-Some.is) ∙ sym c.may_append_function_params.ensures ∙ c.if-not-may_append_function_params.false) done.room
 
 pub last_params-requires-clause-exists : goal.last_params-requires-clause-exists
-last_params-requires-clause-exists c =
+last_params-requires-clause-exists g c =
     let there = block-there c.requires.calls c.args.builder.now c.args.answers.now c.requires.ready c.args.name c.in-Some.block (sym c.block_named.ensures ∙ c.in-Some.is) in
     let grows = c.in_ok-append_block_params_for_function_params.ensures.grows in
     omega (arith, there, grows.2)
 
 pub last_params-requires-clause-count : goal.last_params-requires-clause-count
-last_params-requires-clause-count c =
+last_params-requires-clause-count g c =
     let old = c.args.builder.now in
     let there = block-there c.requires.calls old c.args.answers.now c.requires.ready c.args.name c.in-Some.block (sym c.block_named.ensures ∙ c.in-Some.is) in
     let viewed = ap (λ (s : SignatureShape). length s.params) (c.behind-func.view_is ∙ c.signature.ensures ∙ ap (λ (f : Body). f.signature) c.func.ensures) in
@@ -57,7 +57,7 @@ last_params-requires-clause-count c =
     enough-params old.func.now c.append_block_params_for_function_params.new.self.func.now c.in-Some.block old.func.now.signature.params c.len-count.result there c.in_ok-append_block_params_for_function_params.ensures.function (omega (arith, viewed, counted))
 
 pub returns : goal.returns
-returns c =
+returns g c =
     let done = c.in_ok-append_block_params_for_function_params.ensures in
     made-answer c.args.builder.now c.append_block_params_for_function_params.new.self c.args.answers.now c.last_params.result c.append_block_params_for_function_params.ensures.call.loans done.grows.3
     (answered-sound _ c.append_block_params_for_function_params.result _ c.append_block_params_for_function_params.ensures.call.fails c.in_ok-append_block_params_for_function_params.was) (ap (λ (x : ContextState). x.variables) c.append_block_params_for_function_params.ensures.context)

@@ -15,33 +15,33 @@ use Rattle.clif_replay.proofs.Switched.{all-judged, block-judged, judged-as, may
 use Rattle.clif_replay.proofs.make_switch.make_switch.Goals as goal
 
 pub value_named-requires : goal.value_named-requires
-value_named-requires c = λ i inside.
+value_named-requires g c = λ i inside.
     subst (λ (f : Body). AnswerExists f (slice_index_or c.args.answers.now i answer.Nothing)) (sym c.func.ensures)
     (answers-exist c.requires.calls c.args.builder.now c.args.answers.now c.requires.ready i inside)
 
 pub returns-in_default : goal.returns-in_default
-returns-in_default c =
+returns-in_default g c =
     switch-misused c.args.entries.now c.args.value c.args.otherwise c.args.builder.now c.args.answers.now
     (value-judged c.args.entries.now c.args.value c.args.otherwise c.args.builder.now c.args.answers.now
     (ap (λ (f : Body). value_of f c.args.answers.now c.args.value) (sym c.func.ensures) ∙ sym c.value_named.ensures ∙ c.in_default.is))
 
 pub returns-in_default-block_named : goal.returns-in_default-block_named
-returns-in_default-block_named c =
+returns-in_default-block_named g c =
     switch-misused c.args.entries.now c.args.value c.args.otherwise c.args.builder.now c.args.answers.now
     (block-judged c.args.entries.now c.args.value c.args.otherwise c.args.builder.now c.args.answers.now (sym c.block_named.ensures ∙ c.in_default-block_named.is))
 
 pub may_switch-requires : goal.may_switch-requires
-may_switch-requires c =
+may_switch-requires g c =
     value-exists c.requires.calls c.args.builder.now c.args.answers.now c.requires.ready c.args.value c.in-Some.val
     (ap (λ (f : Body). value_of f c.args.answers.now c.args.value) (sym c.func.ensures) ∙ sym c.value_named.ensures ∙ c.in-Some.is)
 
 pub switch_fault-requires : goal.switch_fault-requires
-switch_fault-requires c =
+switch_fault-requires g c =
     value-exists c.requires.calls c.args.builder.now c.args.answers.now c.requires.ready c.args.value c.in-Some.val
     (ap (λ (f : Body). value_of f c.args.answers.now c.args.value) (sym c.func.ensures) ∙ sym c.value_named.ensures ∙ c.in-Some.is)
 
 pub returns-then-not-may_switch : goal.returns-then-not-may_switch
-returns-then-not-may_switch c =
+returns-then-not-may_switch g c =
     let b = c.args.builder.now in
     let found = ap (λ (f : Body). value_of f c.args.answers.now c.args.value) (sym c.func.ensures) ∙ sym c.value_named.ensures ∙ c.in-Some.is in
     switch-misused c.args.entries.now c.args.value c.args.otherwise b c.args.answers.now
@@ -49,7 +49,7 @@ returns-then-not-may_switch c =
     (all-judged c.args.entries.now c.args.value c.args.otherwise b c.args.answers.now c.in-Some.val found))
 
 pub returns-in_err-switch : goal.returns-in_err-switch
-returns-in_err-switch c =
+returns-in_err-switch g c =
     let b = c.args.builder.now in
     let found = ap (λ (f : Body). value_of f c.args.answers.now c.args.value) (sym c.func.ensures) ∙ sym c.value_named.ensures ∙ c.in-Some.is in
     let can = sym c.may_switch.ensures ∙ c.if-not-may_switch.false in
@@ -61,7 +61,7 @@ returns-in_err-switch c =
     c.in_err-switch.ensures.err)
 
 pub emit-requires : goal.emit-requires
-emit-requires c =
+emit-requires g c =
     let b = c.args.builder.now in
     let found = ap (λ (f : Body). value_of f c.args.answers.now c.args.value) (sym c.func.ensures) ∙ sym c.value_named.ensures ∙ c.in-Some.is in
     subst (λ (cases : CaseMap). MayEmit cases c.in-Some.val c.in-Some-block_named.other b) (sym c.in_ok-switch.ensures.ok)
@@ -69,7 +69,7 @@ emit-requires c =
     (sym c.block_named.ensures ∙ c.in-Some-block_named.is) (sym c.may_switch.ensures ∙ c.if-not-may_switch.false))
 
 pub returns-in-Ok : goal.returns-in-Ok
-returns-in-Ok c =
+returns-in-Ok g c =
     let old = c.args.builder.now in
     let found = ap (λ (f : Body). value_of f c.args.answers.now c.args.value) (sym c.func.ensures) ∙ sym c.value_named.ensures ∙ c.in-Some.is in
     switch-made c.refusals_are_of_keys.ensures c.args.entries.now c.args.value c.args.otherwise old c.emit.new.bx c.args.answers.now c.in-Some.val c.in-Some-block_named.other found
@@ -77,7 +77,7 @@ returns-in-Ok c =
     (subst (λ (cases : CaseMap). Emits cases c.in-Some.val c.in-Some-block_named.other old c.emit.new.bx (Ok tt)) c.in_ok-switch.ensures.ok c.in-Ok.ensures)
 
 pub returns-in-Err : goal.returns-in-Err
-returns-in-Err c =
+returns-in-Err g c =
     let old = c.args.builder.now in
     let found = ap (λ (f : Body). value_of f c.args.answers.now c.args.value) (sym c.func.ensures) ∙ sym c.value_named.ensures ∙ c.in-Some.is in
     let can = sym c.may_switch.ensures ∙ c.if-not-may_switch.false in

@@ -6,4 +6,4 @@ use Rattle.clif_resolution.specs.Conditions.{is_target}
 use Rattle.clif_replay.proofs.make_switch.may_target_all.Given as goal
 
 abbrev pub invariant-loop-entry : goal.invariant-loop-entry
-invariant-loop-entry l = list_all (λ entry. is_target l.builder (block_of l.answers entry.block)) (take l.entry-index l.entries) ≡ true
+invariant-loop-entry g l = list_all (λ entry. is_target l.builder (block_of l.answers entry.block)) (take l.entry-index l.entries) ≡ true

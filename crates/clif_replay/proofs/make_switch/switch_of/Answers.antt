@@ -21,7 +21,7 @@ same-error : (e y : SwitchError) → ◌≡◌ {A = Result (Unit {0}) SwitchErro
 same-error e y same = cc
 
 pub loop-entry-preserved : goal.loop-entry-preserved
-loop-entry-preserved c =
+loop-entry-preserved g c =
     let entry : SwitchEntry = get_or c.args.entries.now c.loop-entry.entry-index none in
     let fresh = false_from_ne_true (finite.contains_key c.loop-entry.switch entry.key) (λ there.
     no-error (switch_error.SetTwice entry.key) (c.in_default-set_entry.ensures.twice.1 there)) in
@@ -30,7 +30,7 @@ loop-entry-preserved c =
     record { cases = made.0; once = made.1 }
 
 pub returns-in-Err-clause-err : goal.returns-in-Err-clause-err
-returns-in-Err-clause-err c =
+returns-in-Err-clause-err g c =
     let entry : SwitchEntry = get_or c.args.entries.now c.loop-entry.entry-index none in
     elim c.in-Err.ensures.only [
       | inl twice ↦

@@ -12,16 +12,16 @@ use Rattle.clif_replay.proofs.ReadyLaws.{answers-exist}
 use Rattle.clif_replay.proofs.make_tables.block_call.Goals as goal
 
 pub edge_found-requires : goal.edge_found-requires
-edge_found-requires c = answers-exist c.requires.calls c.args.builder.now c.args.answers.now c.requires.ready
+edge_found-requires g c = answers-exist c.requires.calls c.args.builder.now c.args.answers.now c.requires.ready
 
 pub returns-in_err-found : goal.returns-in_err-found
-returns-in_err-found c =
+returns-in_err-found g c =
     let p = err_from_is_err_and c.from_residual.result c.from_residual.ensures.1 in
     made-misused c.args.builder.now c.args.answers.now c.edge_found.result c.from_residual.result c.in_err-found.field-0.0 c.in_err-found.was (p.1 ∙ ap Err p.2) c.edge_found.ensures
     (λ none naming declared calls ready. edge-same calls c.args.builder.now c.args.answers.now ready c.args.edge.now ∙ none)
 
 pub returns : goal.returns
-returns c =
+returns g c =
     let old = c.args.builder.now in
     let new = c.block_call.new.self in
     let done = c.block_call.ensures in

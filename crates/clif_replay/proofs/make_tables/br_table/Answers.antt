@@ -20,26 +20,26 @@ use Rattle.clif_replay.proofs.ReadyLaws.{answers-exist, value-exists}
 use Rattle.clif_replay.proofs.make_tables.br_table.Goals as goal
 
 pub returns-then-not-has_current : goal.returns-then-not-has_current
-returns-then-not-has_current c =
+returns-then-not-has_current g c =
     numbered (λ numbers naming declared ledger. br_table ledger (naming c.args.index) (numbers JumpTables c.args.name)) c.args.builder.now c.args.builder.now c.args.answers.now (Err (error.Misuse _))
     (made-misuse c.args.builder.now c.args.answers.now (λ naming declared calls ready.
     branch-same calls c.args.builder.now c.args.answers.now ready c.args.index _
     ∙ branch-closed c.args.builder.now _ _ (sym c.has_current.ensures ∙ c.if-not-has_current.true)))
 
 pub value_named-requires : goal.value_named-requires
-value_named-requires c = λ i inside.
+value_named-requires g c = λ i inside.
     subst (λ (f : Body). AnswerExists f (slice_index_or c.args.answers.now i answer.Nothing)) (sym c.func.ensures)
     (answers-exist c.requires.calls c.args.builder.now c.args.answers.now c.requires.ready i inside)
 
 pub returns-in_default : goal.returns-in_default
-returns-in_default c =
+returns-in_default g c =
     let none = ap (λ (f : Body). value_of f c.args.answers.now c.args.index) (sym c.func.ensures) ∙ sym c.value_named.ensures ∙ c.in_default.is in
     numbered (λ numbers naming declared ledger. br_table ledger (naming c.args.index) (numbers JumpTables c.args.name)) c.args.builder.now c.args.builder.now c.args.answers.now (Err (error.Misuse _))
     (made-misuse c.args.builder.now c.args.answers.now (λ naming declared calls ready.
     branch-same calls c.args.builder.now c.args.answers.now ready c.args.index _ ∙ branch-missing c.args.builder.now _ _ none))
 
 pub returns-in_default-jump_table_named : goal.returns-in_default-jump_table_named
-returns-in_default-jump_table_named c =
+returns-in_default-jump_table_named g c =
     let b = c.args.builder.now in
     let table : ℕ = (numbers_at c.args.builder.now.func.now c.args.answers.now JumpTables c.args.name) in
     let none : table ≡ length b.func.now.tables.jump_tables =
@@ -50,7 +50,7 @@ returns-in_default-jump_table_named c =
     ∙ and_right _ (serves b table) (ap (serves b) none ∙ none-serves b)))
 
 pub returns-then-not-may_serve : goal.returns-then-not-may_serve
-returns-then-not-may_serve c =
+returns-then-not-may_serve g c =
     let b = c.args.builder.now in
     let is = number-found b.func.now c.args.answers.now JumpTables c.args.name c.in-Some-jump_table_named.table (sym c.jump_table_named.ensures ∙ c.in-Some-jump_table_named.is) in
     numbered (λ numbers naming declared ledger. br_table ledger (naming c.args.index) (numbers JumpTables c.args.name)) c.args.builder.now b c.args.answers.now (Err (error.Misuse _))
@@ -59,20 +59,20 @@ returns-then-not-may_serve c =
     ∙ and_right _ (serves b (numbers_at c.args.builder.now.func.now c.args.answers.now JumpTables c.args.name)) (ap (serves b) is ∙ sym c.may_serve.ensures ∙ c.if-not-may_serve.true)))
 
 pub branch-builder-requires-clause-current : goal.branch-builder-requires-clause-current
-branch-builder-requires-clause-current c =
+branch-builder-requires-clause-current g c =
     has-current c.requires.calls c.args.builder.now c.args.answers.now c.requires.ready (sym c.has_current.ensures ∙ c.if-not-has_current.false)
 
 pub branch-builder-requires-clause-index_exists : goal.branch-builder-requires-clause-index_exists
-branch-builder-requires-clause-index_exists c =
+branch-builder-requires-clause-index_exists g c =
     value-exists c.requires.calls c.args.builder.now c.args.answers.now c.requires.ready c.args.index c.in-Some.value
     (ap (λ (f : Body). value_of f c.args.answers.now c.args.index) (sym c.func.ensures) ∙ sym c.value_named.ensures ∙ c.in-Some.is)
 
 pub branch-builder-requires-clause-serves : goal.branch-builder-requires-clause-serves
-branch-builder-requires-clause-serves c =
+branch-builder-requires-clause-serves g c =
     serving c.requires.calls c.args.builder.now c.args.answers.now c.requires.ready c.in-Some-jump_table_named.table (sym c.may_serve.ensures ∙ c.if-not-may_serve.false)
 
 pub returns-in_err-inst : goal.returns-in_err-inst
-returns-in_err-inst c =
+returns-in_err-inst g c =
     let b = c.args.builder.now in
     let answers = c.args.answers.now in
     let table = c.in-Some-jump_table_named.table in
@@ -91,7 +91,7 @@ returns-in_err-inst c =
     done.full)
 
 pub returns : goal.returns
-returns c =
+returns g c =
     let b = c.args.builder.now in
     let new = c.branch-builder.new.builder in
     let answers = c.args.answers.now in

@@ -7,8 +7,8 @@ use Rattle.clif_builder.specs.Entries.{TakesJumpTable}
 use Rattle.clif_replay.proofs.make_tables.branch.Goals as goal
 
 pub returns : goal.returns
-returns c =
-    subst (λ (new : FunctionBuilder). TakesThenBuilds TakesJumpTable Builds c.args.builder.now new (branch_table c.args.index) c.args.table Invalid c.br_table.result)
+returns g c =
+    subst (λ (new : FunctionBuilder _). TakesThenBuilds TakesJumpTable Builds c.args.builder.now new (branch_table c.args.index) c.args.table Invalid c.br_table.result)
     (sym (c.builder-1.given.1 (sym c.ins.ensures.same)))
-    (subst (λ (old : FunctionBuilder). TakesThenBuilds TakesJumpTable Builds old c.br_table.new.self (branch_table c.args.index) c.args.table Invalid c.br_table.result)
+    (subst (λ (old : FunctionBuilder _). TakesThenBuilds TakesJumpTable Builds old c.br_table.new.self (branch_table c.args.index) c.args.table Invalid c.br_table.result)
     c.ins.ensures.builder c.br_table.ensures.built)

@@ -15,7 +15,7 @@ use Rattle.clif_replay.proofs.Making.{answered-sound, made-answer, made-misused,
 use Rattle.clif_replay.proofs.make_tables.create_jump_table.Goals as goal
 
 pub returns-in_err-default : goal.returns-in_err-default
-returns-in_err-default c =
+returns-in_err-default g c =
     let p = err_from_is_err_and c.from_residual.result c.from_residual.ensures.1 in
     let b = c.args.builder.now in
     made-misused b c.args.answers.now c.edge_copied.result c.from_residual.result c.in_err-default.field-0.0 c.in_err-default.was (p.1 ∙ ap Err p.2) c.edge_copied.ensures
@@ -24,7 +24,7 @@ returns-in_err-default c =
     ∙ ap (λ (test : Bool). test && list_all (λ name. is_some (edge_at c.args.answers.now name)) c.args.entries.now) none)
 
 pub returns-in_err-entries : goal.returns-in_err-entries
-returns-in_err-entries c =
+returns-in_err-entries g c =
     let p = err_from_is_err_and c.from_residual-in_err-entries.result c.from_residual-in_err-entries.ensures.1 in
     let b = c.args.builder.now in
     let done = c.edges_copied.ensures in
@@ -35,7 +35,7 @@ returns-in_err-entries c =
     done.never_refused done.never_full
 
 pub returns-in_err-made : goal.returns-in_err-made
-returns-in_err-made c =
+returns-in_err-made g c =
     let b = c.args.builder.now in
     let answers = c.args.answers.now in
     let names : List Name = c.args.default ∷ c.args.entries.now in
@@ -50,7 +50,7 @@ returns-in_err-made c =
     (λ naming declared calls ready. edges-same calls b answers ready names ∙ all-there answers names edges found) (λ full. (done.full.0 full).1)
 
 pub returns : goal.returns
-returns c =
+returns g c =
     let b = c.args.builder.now in
     let new = c.create_jump_table.new.self in
     let answers = c.args.answers.now in

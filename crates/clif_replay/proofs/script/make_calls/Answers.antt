@@ -30,12 +30,12 @@ use Rattle.clif_replay.proofs.Verdicts.{HasRest, calls-more, calls_before, full-
 use Rattle.clif_replay.proofs.script.make_calls.Goals as goal
 
 -- the first calls were made where the builder is in step
-replayed-at : (config : TargetFrontendConfig) (declared : SignatureShape) (calls : List Call) (place : ℕ) (b : FunctionBuilder) (answers : List Answer) (s : IsInStep config declared (calls_before config declared calls place) b answers)
+replayed-at : {R : Type 0} (config : TargetFrontendConfig) (declared : SignatureShape) (calls : List Call) (place : ℕ) (b : FunctionBuilder R) (answers : List Answer) (s : IsInStep config declared (calls_before config declared calls place) b answers)
     → HasRest config declared calls place → IsReplayed config declared calls place s.made
 replayed-at config declared calls place b answers s rest = record { plain = s.known.calls; taken = s.taken; rest = rest }
 
 -- the same step, of these calls and answers
-advance : (config : TargetFrontendConfig) (declared : SignatureShape) (script next : List ScriptCall) (b : FunctionBuilder) (answers more : List Answer) → script ≡ next → answers ≡ more
+advance : {R : Type 0} (config : TargetFrontendConfig) (declared : SignatureShape) (script next : List ScriptCall) (b : FunctionBuilder R) (answers more : List Answer) → script ≡ next → answers ≡ more
     → IsInStep config declared script b answers → IsInStep config declared next b more
 advance config declared script next b answers more calls given s =
     subst (λ (xs : List Answer). IsInStep config declared next b xs) given (subst (λ (list : List ScriptCall). IsInStep config declared list b answers) calls s)
@@ -47,7 +47,7 @@ no-some xs k a same is =
     let none : length xs ≡ 0 = ap length same in
     omega (arith, below, none)
 
-starts : (config : TargetFrontendConfig) (declared : SignatureShape) (b : FunctionBuilder) → LedgerIsReadByNumber → StandsFor declared [] b
+starts : {R : Type 0} (config : TargetFrontendConfig) (declared : SignatureShape) (b : FunctionBuilder R) → LedgerIsReadByNumber → StandsFor declared [] b
     → b.func.now.tables.jump_tables ≡ [] → b.func.now.tables.exception_tables ≡ [] → IsInStep config declared [] b []
 starts config declared b reads stands tables exceptions = record {
   naming = name_of;
@@ -83,7 +83,7 @@ rest-start config declared [] = refl
 rest-start config declared (call ∷ calls) = refl
 
 pub loop-place-init : goal.loop-place-init
-loop-place-init c =
+loop-place-init g c =
     let declared = c.args.builder.now.func.now.signature in
     let calls = c.args.calls.now in
     let start = starts c.args.config declared c.args.builder.now c.ledger_is_read_by_number.ensures c.requires.ready c.requires.tables c.requires.exceptions in
@@ -91,13 +91,13 @@ loop-place-init c =
       in_step = advance c.args.config declared _ _ c.args.builder.now _ _ (sym (ap (calls_of c.args.config declared) (take-none calls))) (sym c.new-answers.ensures.items) start;
       rest = rest-start c.args.config declared calls;
       types = c.new-types.ensures.items ∙ sym c.requires.types;
-      loans = record { func = refl; ctx = refl };
+      loans = record { func = refl; ctx = refl; region = refl };
       sound = c.requires.sound;
       name = refl;
     }
 
 pub loop-place-preserved : goal.loop-place-preserved
-loop-place-preserved c =
+loop-place-preserved g c =
     let declared = c.args.builder.now.func.now.signature in
     let calls = c.args.calls.now in
     let place = c.loop-place.place in
@@ -119,7 +119,7 @@ loop-place-preserved c =
     }
 
 pub returns-in-Err-clause-judged : goal.returns-in-Err-clause-judged
-returns-in-Err-clause-judged c = λ i told.
+returns-in-Err-clause-judged g c = λ i told.
     let declared = c.args.builder.now.func.now.signature in
     let calls = c.args.calls.now in
     let place = c.loop-place.place in
@@ -143,7 +143,7 @@ allowed-full : (e : CallError) → e ≡ error.Full → (allowed blamed refused 
 allowed-full e is allowed blamed refused judged = subst (λ (told : CallError). IsCallJudged allowed blamed refused (Err told)) is judged
 
 pub returns-in-Err-clause-table_full : goal.returns-in-Err-clause-table_full
-returns-in-Err-clause-table_full c = λ told.
+returns-in-Err-clause-table_full g c = λ told.
     let invariant = c.loop-place.invariant in
     let declared = c.args.builder.now.func.now.signature in
     let calls = c.args.calls.now in
@@ -161,18 +161,18 @@ returns-in-Err-clause-table_full c = λ told.
       made = invariant.in_step.made;
       replayed = replayed-at c.args.config declared calls place builder _ invariant.in_step invariant.rest;
       function = builder.func.now;
-      context = builder.ctx.now;
+      context = builder.ctx.now.parts;
       position = builder.position;
       stands = invariant.in_step.ready.stands;
       named = invariant.name;
       allowed = allowed-full c.in-Err.error is_full _ _ _ judged;
       meets =
-          subst (λ (numbers : Numbers). MeetsFullTable numbers call builder.func.now builder.ctx.now)
+          subst (λ (numbers : Numbers). MeetsFullTable numbers call builder.func.now builder.ctx.now.parts)
           (in-step-numbers c.args.config declared (calls_before c.args.config declared calls place) builder _ before) (made.full (ap Err is_full));
     }
 
 pub returns-in_err-note_call-in-Ok : goal.returns-in_err-note_call-in-Ok
-returns-in_err-note_call-in-Ok c =
+returns-in_err-note_call-in-Ok g c =
     let p = err_from_is_err_and c.from_residual.result c.from_residual.ensures.1 in
     let step_made = step c.args.config c.index-calls-place.result c.loop-place.builder c.make_call.new.builder _ (Ok c.in-Ok.answer) c.in-Ok.ensures in
     let made = made-memory c.args.config c.args.calls.now c.args.builder.now c.make_call.new.builder c.from_residual.result (p.1 ∙ ap Err p.2)
@@ -180,7 +180,7 @@ returns-in_err-note_call-in-Ok c =
     record { loans = made.loans; name = made.name; ready = made.ready; sound = made.sound; misuse = made.misuse; judged = made.judged; tried = made.tried; refused = made.refused; table_full = made.table_full }
 
 pub returns-in_err-push-in-Ok : goal.returns-in_err-push-in-Ok
-returns-in_err-push-in-Ok c =
+returns-in_err-push-in-Ok g c =
     let p = err_from_is_err_and c.from_residual-in_err-push-in-Ok.result c.from_residual-in_err-push-in-Ok.ensures.1 in
     let step_made = step c.args.config c.index-calls-place.result c.loop-place.builder c.make_call.new.builder _ (Ok c.in-Ok.answer) c.in-Ok.ensures in
     let made = made-memory c.args.config c.args.calls.now c.args.builder.now c.make_call.new.builder c.from_residual-in_err-push-in-Ok.result (p.1 ∙ ap Err p.2)
@@ -188,7 +188,7 @@ returns-in_err-push-in-Ok c =
     record { loans = made.loans; name = made.name; ready = made.ready; sound = made.sound; misuse = made.misuse; judged = made.judged; tried = made.tried; refused = made.refused; table_full = made.table_full }
 
 pub returns-in_err-push : goal.returns-in_err-push
-returns-in_err-push c =
+returns-in_err-push g c =
     let p = err_from_is_err_and c.from_residual-in_err-push.result c.from_residual-in_err-push.ensures.1 in
     let step_made = step c.args.config c.index-calls-place.result c.loop-place.builder c.make_call.new.builder _ (Ok c.in-Ok.answer) c.in-Ok.ensures in
     let made = made-memory c.args.config c.args.calls.now c.args.builder.now c.make_call.new.builder c.from_residual-in_err-push.result (p.1 ∙ ap Err p.2)
@@ -196,7 +196,7 @@ returns-in_err-push c =
     record { loans = made.loans; name = made.name; ready = made.ready; sound = made.sound; misuse = made.misuse; judged = made.judged; tried = made.tried; refused = made.refused; table_full = made.table_full }
 
 pub returns : goal.returns
-returns c =
+returns g c =
     let invariant = c.loop-place.invariant in
     let declared = c.args.builder.now.func.now.signature in
     let ended = last-place c.loop-place.place (length c.args.calls.now) c.loop-place.auto.place-end c.loop-place-test.false in
@@ -206,24 +206,24 @@ returns c =
     record { loans = made.loans; name = made.name; ready = made.ready; sound = made.sound; misuse = made.misuse; judged = made.judged; tried = made.tried; refused = made.refused; table_full = made.table_full }
 
 pub returns-in-Err-clause-loans : goal.returns-in-Err-clause-loans
-returns-in-Err-clause-loans c =
+returns-in-Err-clause-loans g c =
     let made = step c.args.config c.index-calls-place.result c.loop-place.builder c.make_call.new.builder _ (Err c.in-Err.error) c.in-Err.ensures in
     loans-then c.args.builder.now c.loop-place.builder c.make_call.new.builder c.loop-place.invariant.loans made.loans
 
 pub returns-in-Err-clause-name : goal.returns-in-Err-clause-name
-returns-in-Err-clause-name c = tt
+returns-in-Err-clause-name g c = tt
 
 pub returns-in-Err-clause-ready : goal.returns-in-Err-clause-ready
-returns-in-Err-clause-ready c = tt
+returns-in-Err-clause-ready g c = tt
 
 pub returns-in-Err-clause-sound : goal.returns-in-Err-clause-sound
-returns-in-Err-clause-sound c = tt
+returns-in-Err-clause-sound g c = tt
 
 pub returns-in-Err-clause-misuse : goal.returns-in-Err-clause-misuse
-returns-in-Err-clause-misuse c = λ i told. subst (λ (k : ℕ). k < length c.args.calls.now) (sym (misuse-place c.in-Err.error c.loop-place.place i c.told_at.result c.told_at.ensures told)) c.loop-place-test.true
+returns-in-Err-clause-misuse g c = λ i told. subst (λ (k : ℕ). k < length c.args.calls.now) (sym (misuse-place c.in-Err.error c.loop-place.place i c.told_at.result c.told_at.ensures told)) c.loop-place-test.true
 
 pub returns-in-Err-clause-tried : goal.returns-in-Err-clause-tried
-returns-in-Err-clause-tried c = λ i told.
+returns-in-Err-clause-tried g c = λ i told.
     let call = c.index-calls-place.result in
     let made = step c.args.config call c.loop-place.builder c.make_call.new.builder _ (Err c.in-Err.error) c.in-Err.ensures in
     let refusal = refusal-at c.in-Err.error c.loop-place.place i c.told_at.result c.told_at.ensures (same-refusal c.told_at.result i told) in
@@ -231,7 +231,7 @@ returns-in-Err-clause-tried c = λ i told.
     (made.refused refusal.0 (ap Err refusal.1)) refusal.2
 
 pub returns-in-Err-clause-refused : goal.returns-in-Err-clause-refused
-returns-in-Err-clause-refused c = λ i told.
+returns-in-Err-clause-refused g c = λ i told.
     let declared = c.args.builder.now.func.now.signature in
     let calls = c.args.calls.now in
     let place = c.loop-place.place in

@@ -4,7 +4,7 @@ use Rattle.clif_resolution.proofs.Options.{copied-there, there-below}
 use Rattle.clif_resolution.proofs.conditions.has_signature.Goals as goal
 
 pub returns : goal.returns
-returns c =
+returns g c =
     c.is_some.ensures
     ∙ copied-there c.signature.result
     ∙ ap is_some c.signature.ensures

@@ -8,7 +8,7 @@ use Rattle.clif_resolution.proofs.Found.{found-leads, found-one}
 use Rattle.clif_resolution.proofs.names.edge_named.Goals as goal
 
 pub returns : goal.returns
-returns c =
+returns g c =
     let b = c.args.builder.now in
     let passed = subst (λ (f : Body). map (argument_of f c.args.answers.now) c.args.edge.now.args.items ≡ map Some c.in_ok-args.args) c.func.ensures
     (subst (λ (names : List Name). map (argument_of c.func.result.now c.args.answers.now) names ≡ map Some c.in_ok-args.args) c.as_slice.ensures.value c.in_ok-args.ensures.passed) in

@@ -6,7 +6,7 @@ use Rattle.clif_resolution.proofs.Planning.{first-exists}
 use Rattle.clif_resolution.proofs.plans.binary.Goals as goal
 
 pub like-requires : goal.like-requires
-like-requires c =
+like-requires g c =
     let it = c.in_ok-x in
     let found = subst (λ (f : Body). map (value_of f c.args.answers.now) c.args.args.now ≡ map Some (it.x ∷ it.y ∷ [])) c.func-func.ensures it.ensures.found in
     subst (λ (f : Body). it.x < length f.values) (sym c.func-func.ensures) (first-exists c.args.builder.now c.args.answers.now c.args.args.now it.x (it.y ∷ []) c.requires.values found)

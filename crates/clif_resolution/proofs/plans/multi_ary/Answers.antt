@@ -9,7 +9,7 @@ use Rattle.clif_resolution.proofs.Planning.{planned-found, planned-returns}
 use Rattle.clif_resolution.proofs.plans.multi_ary.Goals as goal
 
 pub returns : goal.returns
-returns c =
+returns g c =
     let values = c.in_ok-args.args in
     let found = subst (λ (f : Body). map (value_of f c.args.answers.now) c.args.args.now ≡ map Some values) c.func.ensures c.in_ok-args.ensures.values in
     planned-found c.args.builder.now c.args.answers.now (plan.MultiAry c.args.args) (plan.MultiAry c.args.args) c.untyped.result (shape.MultiAry values) Invalid refl c.untyped.ensures refl

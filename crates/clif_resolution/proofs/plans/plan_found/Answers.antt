@@ -16,7 +16,7 @@ use Rattle.clif_resolution.proofs.Planning.{entries-same, planned-named}
 use Rattle.clif_resolution.proofs.plans.plan_found.Goals as goal
 
 pub returns-then-not-has_entries : goal.returns-then-not-has_entries
-returns-then-not-has_entries c =
+returns-then-not-has_entries g c =
     let b = c.args.builder.now in
     let planned = c.in_ok-planned.planned in
     let tells = subst (λ (f : Body). IsTrue c.has_entries.result ↔ All (EntryExists f.tables) (entries_of planned.shape)) c.func.ensures c.has_entries.ensures in
@@ -24,7 +24,7 @@ returns-then-not-has_entries c =
     (entries-same b c.args.answers.now c.args.plan.now planned.shape planned.ty c.has_entries.result c.in_ok-planned.ensures.found tells ∙ c.if-not-has_entries.true))
 
 pub returns : goal.returns
-returns c =
+returns g c =
     let b = c.args.builder.now in
     let answers = c.args.answers.now in
     let plan = c.args.plan.now in

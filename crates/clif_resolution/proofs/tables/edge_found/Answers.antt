@@ -8,7 +8,7 @@ use Rattle.clif_resolution.proofs.Found.{edge-there, found-one}
 use Rattle.clif_resolution.proofs.tables.edge_found.Goals as goal
 
 pub returns : goal.returns
-returns c =
+returns g c =
     let b = c.args.builder.now in
     let passed = subst (λ (f : Body). map (passed_in f c.args.answers.now) c.args.edge.now.args.items ≡ map Some c.in_ok-args.args) c.func.ensures
     (subst (λ (args : List Passed). map (passed_in c.func.result.now c.args.answers.now) args ≡ map Some c.in_ok-args.args) c.as_slice.ensures.value c.in_ok-args.ensures.passed) in

@@ -1,9 +1,7 @@
 -- What a replay answers with a function is what the script makes.
-use Rattle.std.proofs.Common.{List, sym, subst}
+use Rattle.std.proofs.Common.{sym}
 use Rattle.std.proofs.lemmas.Option.{same_Some}
-use Rattle.clif_calls.specs.declared.call.Call.{Call}
-use Rattle.clif_replay.specs.Replay.{ReplayMakes}
-use Rattle.clif_script.proofs.Answering.{answer_no_error, if_ok_then, of_value}
+use Rattle.clif_script.proofs.Answering.{answer_no_error, if_ok_then, made_by_calls, of_value}
 use Rattle.clif_script.proofs.program.build_script.Goals as goal
 
 pub returns-clause-makes : goal.returns-clause-makes
@@ -13,7 +11,7 @@ returns-clause-makes g c =
     (λ status typed zero. record {
       function = c.in-Ok.func;
       typed = typed zero;
-      makes = subst (λ (calls : List Call). ReplayMakes calls script.name script.signature script.config c.in-Ok.func) c.as_slice.ensures.value
+      makes = made_by_calls c.args.region _ _ script.calls.items script.name script.signature script.config c.in-Ok.func c.as_slice.ensures.value
           (record {
             same_meaning = c.in-Ok.ensures.same_meaning;
             built = c.in-Ok.ensures.built;

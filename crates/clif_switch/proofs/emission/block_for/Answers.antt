@@ -10,13 +10,13 @@ use Rattle.clif_switch.proofs.Targets.{next_made, next_none}
 use Rattle.clif_switch.proofs.emission.block_for.Goals as goal
 
 pub returns-in-Otherwise-clause-made : goal.returns-in-Otherwise-clause-made
-returns-in-Otherwise-clause-made c = λ signature calls s cases plain at names zip.
+returns-in-Otherwise-clause-made g c = λ signature calls s cases plain at names zip.
     subst (λ (n : Next). (target : NamesTarget at (block_for n) c.args.bx.now (name_for s n (next_place calls plain)) c.args.switched.otherwise)
     × AllZip (NamesBlock (calls ++ target.on.later.added)) (names ++ other_of n (next_place calls plain)) c.args.blocks.now.items) (sym c.in-Otherwise.is)
     (next_none at names c.args.blocks.now.items zip)
 
 pub returns-in-Node-clause-made : goal.returns-in-Node-clause-made
-returns-in-Node-clause-made c = λ signature calls s cases plain at names zip.
+returns-in-Node-clause-made g c = λ signature calls s cases plain at names zip.
     subst (λ (n : Next). IfOk c.new_block.result (λ block. (target : NamesTarget at (block_for n) c.new_block.new.bx (name_for s n (next_place calls plain)) block)
     × AllZip (NamesBlock (calls ++ target.on.later.added)) (names ++ other_of n (next_place calls plain)) c.new_block.new.blocks.items)) (sym c.in-Node.is)
     (next_made at names c.args.blocks.now.items zip c.new_block.new.bx c.new_block.new.blocks.items c.new_block.result c.new_block.ensures.added

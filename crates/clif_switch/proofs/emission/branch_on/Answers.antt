@@ -18,7 +18,7 @@ use Rattle.clif_switch.proofs.Values.{gives_went, value_went, went_then}
 use Rattle.clif_switch.proofs.emission.branch_on.Goals as goal
 
 pub returns-clause-ends : goal.returns-clause-ends
-returns-clause-ends c =
+returns-clause-ends g c =
     let number = c.in_ok-constant.ensures in
     let went = went_then c.args.bx.now c.emit_number.new.bx c.icmp.new.self
     (gives_went c.args.bx.now c.emit_number.new.bx c.args.switched.ty c.in_ok-constant.constant number.gives number.position)
@@ -26,7 +26,7 @@ returns-clause-ends c =
     ends_then 0 c.args.bx.now c.icmp.new.self c.brif.new.self (tt {0}) went (ends_by c.icmp.new.self c.brif.new.self _ _ c.in_ok-brif.field-0 refl c.in_ok-brif.ensures.built)
 
 pub returns-clause-made : goal.returns-clause-made
-returns-clause-made c = λ signature calls s cases plain at t o tn on.
+returns-clause-made g c = λ signature calls s cases plain at t o tn on.
     let reads = c.ledger_is_read_by_number.ensures in
     let asks = c.requests_ask_for_their_shapes.ensures in
     let made = c.in_ok-constant.ensures.made signature calls s cases plain at in

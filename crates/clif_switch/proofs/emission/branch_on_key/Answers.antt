@@ -6,7 +6,7 @@ use Rattle.clif_switch.proofs.Numbers.{held_is, type_is}
 use Rattle.clif_switch.proofs.emission.branch_on_key.Goals as goal
 
 pub returns-in_ok-brif-clause-made : goal.returns-in_ok-brif-clause-made
-returns-in_ok-brif-clause-made c = λ signature calls s cases plain at t o tn on.
+returns-in_ok-brif-clause-made g c = λ signature calls s cases plain at t o tn on.
     let reads = c.ledger_is_read_by_number.ensures in
     let asks = c.requests_ask_for_their_shapes.ensures in
     subst (λ (k : ℕ). StandsOn at (key_calls s k (next_place calls plain) t o) c.brif.new.self) (sym c.if-key-eq0.true)

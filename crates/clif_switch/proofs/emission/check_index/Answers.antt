@@ -20,7 +20,7 @@ use Rattle.clif_switch.proofs.Values.{went_then}
 use Rattle.clif_switch.proofs.emission.check_index.Goals as goal
 
 pub returns-in_err-is_greater-clause-ends : goal.returns-in_err-is_greater-clause-ends
-returns-in_err-is_greater-clause-ends c =
+returns-in_err-is_greater-clause-ends g c =
     let made = c.in_ok-block.ensures in
     let went = created_went c.args.bx.now c.create_block.new.self c.in_ok-block.block made.call made.variables made.grows made.remembers made.sealed (made.current c.requires.current) in
     let here : c.args.place < length c.create_block.new.self.func.now.values = let more = made.grows.0 in let inside = c.requires.exists in omega (arith, more, inside) in
@@ -29,7 +29,7 @@ returns-in_err-is_greater-clause-ends c =
     fails_then 0 c.args.bx.now c.create_block.new.self c.icmp_imm_s.new.self c.from_residual-in_err-is_greater.result c.in_err-is_greater.field-0.0 went.steps gives.steps c.from_residual-in_err-is_greater.ensures.1
 
 pub returns-in_err-brif-clause-ends : goal.returns-in_err-brif-clause-ends
-returns-in_err-brif-clause-ends c =
+returns-in_err-brif-clause-ends g c =
     let made = c.in_ok-block.ensures in
     let went = went_then c.args.bx.now c.create_block.new.self c.icmp_imm_s.new.self
     (created_went c.args.bx.now c.create_block.new.self c.in_ok-block.block made.call made.variables made.grows made.remembers made.sealed (made.current c.requires.current))
@@ -37,7 +37,7 @@ returns-in_err-brif-clause-ends c =
     ends_error 0 c.args.bx.now c.icmp_imm_s.new.self c.brif.new.self c.from_residual-in_err-brif.result c.in_err-brif.field-0.0 _ _ went c.in_err-brif.ensures.built c.from_residual-in_err-brif.ensures.1
 
 pub returns-clause-ends : goal.returns-clause-ends
-returns-clause-ends c =
+returns-clause-ends g c =
     let made = c.in_ok-block.ensures in
     let went = went_then c.args.bx.now c.create_block.new.self c.icmp_imm_s.new.self
     (created_went c.args.bx.now c.create_block.new.self c.in_ok-block.block made.call made.variables made.grows made.remembers made.sealed (made.current c.requires.current))
@@ -46,7 +46,7 @@ returns-clause-ends c =
     (ends_by c.icmp_imm_s.new.self c.brif.new.self _ _ c.in_ok-brif.field-0 refl c.in_ok-brif.ensures.built)
 
 pub returns-clause-open : goal.returns-clause-open
-returns-clause-open c =
+returns-clause-open g c =
     let made = c.in_ok-block.ensures in
     let compared = with_constant_went c.create_block.new.self c.icmp_imm_s.new.self _ _ c.args.place _ c.in_ok-is_greater.is_greater c.in_ok-is_greater.ensures.built in
     let ends = ends_then 0 c.create_block.new.self c.icmp_imm_s.new.self c.brif.new.self c.in_ok-block.block compared
@@ -56,7 +56,7 @@ returns-clause-open c =
     (created_open c.create_block.new.self c.in_ok-block.block made.exists made.untouched)
 
 pub returns-clause-made : goal.returns-clause-made
-returns-clause-made c = λ signature calls s cases plain at x names.
+returns-clause-made g c = λ signature calls s cases plain at x names.
     let reads = c.ledger_is_read_by_number.ensures in
     let asks = c.requests_ask_for_their_shapes.ensures in
     let made = c.in_ok-block.ensures in

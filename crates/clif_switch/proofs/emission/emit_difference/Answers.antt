@@ -25,17 +25,17 @@ use Rattle.clif_switch.proofs.emission.emit_difference.Goals as goal
 use Rattle.clif_switch.proofs.emission.emit_difference.Goals.{else-is_widest-via-then-is_widest+else-first, else-is_widest-via-else-is_widest}
 
 pub returns-then-first-eq0-clause-made : goal.returns-then-first-eq0-clause-made
-returns-then-first-eq0-clause-made c = λ signature calls s cases plain at. none_made at c.args.first c.if-first-eq0.true
+returns-then-first-eq0-clause-made g c = λ signature calls s cases plain at. none_made at c.args.first c.if-first-eq0.true
 
 pub returns-then-first-clause-gives : goal.returns-then-first-clause-gives
-returns-then-first-clause-gives c =
+returns-then-first-clause-gives g c =
     let same = c.in_ok-first.ensures.gives.steps.types c.args.switched.val c.requires.switched.exists ∙ c.requires.switched.typed in
     gives_then c.args.bx.now c.emit_number.new.bx c.isub.new.self c.args.switched.ty c.isub.result
     (gives_went c.args.bx.now c.emit_number.new.bx c.args.switched.ty c.in_ok-first.first c.in_ok-first.ensures.gives c.in_ok-first.ensures.position)
     (gives_first c.emit_number.new.bx c.isub.new.self (shapes.binary Isub c.args.switched.val c.in_ok-first.first) (value_at c.emit_number.new.bx.func.now c.args.switched.val).ty c.isub.result c.args.switched.ty same c.isub.ensures.built)
 
 pub returns-then-first-clause-made : goal.returns-then-first-clause-made
-returns-then-first-clause-made c = λ signature calls s cases plain at.
+returns-then-first-clause-made g c = λ signature calls s cases plain at.
     let reads = c.ledger_is_read_by_number.ensures in
     let asks = c.requests_ask_for_their_shapes.ensures in
     let made = c.in_ok-first.ensures.made signature calls s cases plain at in
@@ -52,12 +52,12 @@ returns-then-first-clause-made c = λ signature calls s cases plain at.
     (with_number_made reads asks at c.emit_number.new.bx c.isub.new.self c.args.first c.in_ok-first.first (Binary Isub) shape ty s.ty c.isub.result made c.isub.ensures.built asked refl)
 
 pub returns-clause-gives : goal.returns-clause-gives
-returns-clause-gives c =
+returns-clause-gives g c =
     with_constant_gives c.args.bx.now c.iadd_imm_s.new.self (λ constant. shapes.binary Iadd c.args.switched.val constant) _ c.args.switched.val (value_at c.args.bx.now.func.now c.args.switched.val).ty c.args.switched.ty c.iadd_imm_s.result
     c.requires.switched.exists refl (λ constant. c.requires.switched.typed) c.iadd_imm_s.ensures.built
 
 pub returns-clause-made : goal.returns-clause-made
-returns-clause-made c = λ signature calls s cases plain at.
+returns-clause-made g c = λ signature calls s cases plain at.
     let reads = c.ledger_is_read_by_number.ensures in
     let asks = c.requests_ask_for_their_shapes.ensures in
     let place : ℕ = next_place calls plain in

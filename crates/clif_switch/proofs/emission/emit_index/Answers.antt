@@ -17,7 +17,7 @@ use Rattle.clif_switch.proofs.Values.{done, gives_first}
 use Rattle.clif_switch.proofs.emission.emit_index.Goals as goal
 
 pub returns-in_ok-enter-clause-gives : goal.returns-in_ok-enter-clause-gives
-returns-in_ok-enter-clause-gives c =
+returns-in_ok-enter-clause-gives g c =
     let ends = c.in_ok-block.ensures.ends in
     let entered = c.in_ok-enter.ensures.entered in
     gives_behind c.args.bx.now c.enter.new.bx c.ireduce.new.self i32 c.ireduce.result
@@ -27,7 +27,7 @@ returns-in_ok-enter-clause-gives c =
     (gives_first c.enter.new.bx c.ireduce.new.self (shapes.convert Ireduce c.args.place) i32 c.ireduce.result i32 refl c.ireduce.ensures.built)
 
 pub returns-in_ok-enter-clause-made : goal.returns-in_ok-enter-clause-made
-returns-in_ok-enter-clause-made c = λ signature calls s cases plain at x names.
+returns-in_ok-enter-clause-made g c = λ signature calls s cases plain at x names.
     let reads = c.ledger_is_read_by_number.ensures in
     let asks = c.requests_ask_for_their_shapes.ensures in
     let place : ℕ = next_place calls plain in
@@ -40,7 +40,7 @@ returns-in_ok-enter-clause-made c = λ signature calls s cases plain at x names.
     (entered.values_stay x c.args.place (checked.on.values_stay x c.args.place names)) c.ireduce.ensures.built
 
 pub returns-then-bits-lt32-clause-made : goal.returns-then-bits-lt32-clause-made
-returns-then-bits-lt32-clause-made c = λ signature calls s cases plain at x names.
+returns-then-bits-lt32-clause-made g c = λ signature calls s cases plain at x names.
     let reads = c.ledger_is_read_by_number.ensures in
     let asks = c.requests_ask_for_their_shapes.ensures in
     let same : bits_of s.ty ≡ bits_of c.args.switched.ty = ap bits_of (type_is reads asks at ∙ c.requires.switched.typed) in
@@ -49,7 +49,7 @@ returns-then-bits-lt32-clause-made c = λ signature calls s cases plain at x nam
     (grind (arith, common_steps, same, c.if-bits-lt32.true, c.bits-bits.ensures)) names c.uextend.ensures.built
 
 pub returns-else-bits-lt32-clause-made : goal.returns-else-bits-lt32-clause-made
-returns-else-bits-lt32-clause-made c = λ signature calls s cases plain at x names.
+returns-else-bits-lt32-clause-made g c = λ signature calls s cases plain at x names.
     let reads = c.ledger_is_read_by_number.ensures in
     let asks = c.requests_ask_for_their_shapes.ensures in
     let same : bits_of s.ty ≡ bits_of c.args.switched.ty = ap bits_of (type_is reads asks at ∙ c.requires.switched.typed) in

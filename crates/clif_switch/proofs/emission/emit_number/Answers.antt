@@ -17,15 +17,21 @@ use Rattle.clif_switch.proofs.Values.{always, failed_then, gives_failed, gives_f
 use Rattle.clif_switch.proofs.emission.emit_number.Goals as goal
 use Rattle.clif_switch.proofs.emission.emit_number.Goals.{else-is_widest-via-then-is_widest+else-number, else-is_widest-via-else-is_widest}
 
+pub returns-in_err-low-clause-gives : goal.returns-in_err-low-clause-gives
+returns-in_err-low-clause-gives g c =
+    let p = err_from_is_err_and c.from_residual.result c.from_residual.ensures.1 in
+    gives_failed _ _ c.args.switched.ty c.from_residual.result c.in_err-low.field-0.0 p.0
+    (value_steps _ _ _ _ (Err c.in_err-low.field-0.0) c.in_err-low.ensures.built) p.1 p.2
+
 pub returns-in_err-high-clause-gives : goal.returns-in_err-high-clause-gives
-returns-in_err-high-clause-gives c =
+returns-in_err-high-clause-gives g c =
     let p = err_from_is_err_and c.from_residual-in_err-high.result c.from_residual-in_err-high.ensures.1 in
     gives_failed _ _ c.args.switched.ty c.from_residual-in_err-high.result c.in_err-high.field-0.0 p.0
     (failed_then c.args.bx.now c.iconst.new.self c.iconst-then-number.new.self c.in_err-high.field-0.0 (value_went _ _ _ _ c.in_ok-low.low c.in_ok-low.ensures.built)
     (value_steps _ _ _ _ (Err c.in_err-high.field-0.0) c.in_err-high.ensures.built)) p.1 p.2
 
 pub returns-in_ok-high-clause-gives : goal.returns-in_ok-high-clause-gives
-returns-in_ok-high-clause-gives c =
+returns-in_ok-high-clause-gives g c =
     gives_then c.args.bx.now c.iconst-then-number.new.self c.iconcat.new.self c.args.switched.ty c.iconcat.result
     (went_then c.args.bx.now c.iconst.new.self c.iconst-then-number.new.self (value_went _ _ _ _ c.in_ok-low.low c.in_ok-low.ensures.built) (value_went _ _ _ _ c.in_ok-high.high c.in_ok-high.ensures.built))
     (gives_first c.iconst-then-number.new.self c.iconcat.new.self (shapes.concat c.in_ok-low.low c.in_ok-high.high) _ c.iconcat.result c.args.switched.ty
@@ -34,11 +40,11 @@ returns-in_ok-high-clause-gives c =
     c.iconcat.ensures.built)
 
 pub returns-in_ok-high-clause-position : goal.returns-in_ok-high-clause-position
-returns-in_ok-high-clause-position c =
+returns-in_ok-high-clause-position g c =
     always c.iconcat.result _ (c.iconcat.ensures.built.position ∙ c.in_ok-high.ensures.built.position ∙ c.in_ok-low.ensures.built.position)
 
 pub returns-in_ok-high-clause-made : goal.returns-in_ok-high-clause-made
-returns-in_ok-high-clause-made c = λ signature calls s cases plain at.
+returns-in_ok-high-clause-made g c = λ signature calls s cases plain at.
     let reads = c.ledger_is_read_by_number.ensures in
     let asks = c.requests_ask_for_their_shapes.ensures in
     let low_fits : SFits w64 c.signed_64.result = search rules in
@@ -55,10 +61,10 @@ returns-in_ok-high-clause-made c = λ signature calls s cases plain at.
     low high narrow c.iconcat.ensures.built)
 
 pub returns-else-is_widest-clause-gives : goal.returns-else-is_widest-clause-gives
-returns-else-is_widest-clause-gives c = constant_gives _ _ _ c.args.switched.ty c.integer_constant.result c.integer_constant.ensures.built
+returns-else-is_widest-clause-gives g c = constant_gives _ _ _ c.args.switched.ty c.integer_constant.result c.integer_constant.ensures.built
 
 pub returns-else-is_widest-clause-made : goal.returns-else-is_widest-clause-made
-returns-else-is_widest-clause-made c = λ signature calls s cases plain at.
+returns-else-is_widest-clause-made g c = λ signature calls s cases plain at.
     let reads = c.ledger_is_read_by_number.ensures in
     let asks = c.requests_ask_for_their_shapes.ensures in
     let fits : SFits w64 c.signed_64-else-is_widest.result = search rules in

@@ -21,7 +21,7 @@ use Rattle.clif_switch.proofs.Values.{done}
 use Rattle.clif_switch.proofs.emission.emit_table.Goals as goal
 
 pub br_table-requires-clause-serves : goal.br_table-requires-clause-serves
-br_table-requires-clause-serves c =
+br_table-requires-clause-serves g c =
     let edges : List BlockCall = map bare_to (c.args.switched.otherwise ∷ c.as_slice.result.now) in
     let table = c.in_ok-table.ensures in
     let place = c.in_ok-place.ensures.gives in
@@ -38,7 +38,7 @@ br_table-requires-clause-serves c =
     (all_lead_on c.args.bx.now c.emit_index.new.bx c.as_slice.result.now more leaves (subst (All (MayLead c.args.bx.now)) (sym c.as_slice.ensures.value) c.requires.leads)))
 
 pub returns-clause-ends : goal.returns-clause-ends
-returns-clause-ends c =
+returns-clause-ends g c =
     let edges : List BlockCall = map bare_to (c.args.switched.otherwise ∷ c.as_slice.result.now) in
     let table = c.in_ok-table.ensures in
     let place = c.in_ok-place.ensures.gives in
@@ -55,7 +55,7 @@ returns-clause-ends c =
     table_ends c.args.bx.now c.emit_index.new.bx is.between c.br_table.new.self c.in_ok-table.table c.in_ok-br_table.field-0 c.in_ok-index.index edges is.held whole leaves tables table.number is.takes is.builds
 
 pub returns-clause-made : goal.returns-clause-made
-returns-clause-made c = λ signature calls s cases plain at are.
+returns-clause-made g c = λ signature calls s cases plain at are.
     let reads = c.ledger_is_read_by_number.ensures in
     let law = c.table_calls_add_nothing.ensures in
     let items : List ℕ = c.args.range.now.blocks.items in

@@ -21,7 +21,7 @@ use Rattle.clif_switch.proofs.Values.{went_then}
 use Rattle.clif_switch.proofs.emission.emit_test.Goals as goal
 
 pub returns-in_ok-jump-in-Nothing-clause-made : goal.returns-in_ok-jump-in-Nothing-clause-made
-returns-in_ok-jump-in-Nothing-clause-made c = λ signature calls s cases plain at names needs zip.
+returns-in_ok-jump-in-Nothing-clause-made g c = λ signature calls s cases plain at names needs zip.
     let r : Result (Unit {0}) BuildError = Ok tt in
     subst (λ (t : Test). OnOk r ((on : StandsOn at (test_calls s (tables_at at) t (next_place calls plain)) c.jump.new.self)
     × AllZip (NamesBlock (calls ++ on.later.added)) (names ++ blocks_of t (next_place calls plain)) c.args.blocks.now.items)) (sym c.in-Nothing.is)
@@ -29,19 +29,19 @@ returns-in_ok-jump-in-Nothing-clause-made c = λ signature calls s cases plain a
     (jump_made at c.ledger_is_read_by_number.ensures c.requests_ask_for_their_shapes.ensures c.jump.new.self s.otherwise c.args.switched.otherwise c.in_ok-jump-in-Nothing.field-0 at.otherwise_named c.in_ok-jump-in-Nothing.ensures.built))
 
 pub returns-in_ok-other-in-OneKey-clause-ends : goal.returns-in_ok-other-in-OneKey-clause-ends
-returns-in_ok-other-in-OneKey-clause-ends c =
+returns-in_ok-other-in-OneKey-clause-ends g c =
     subst (λ (t : Test). EndsBlock {A = Unit {0}} (tables_of t) c.args.bx.now c.branch_on_key.new.bx c.branch_on_key.result) (sym c.in-OneKey.is)
     (ends_behind 0 c.args.bx.now c.block_for.new.bx c.branch_on_key.new.bx c.branch_on_key.result
     (stays_went c.args.bx.now c.block_for.new.bx c.in_ok-other-in-OneKey.other c.in_ok-other-in-OneKey.ensures.here) c.branch_on_key.ensures.ends)
 
 pub returns-in_ok-other-in-OneKey-clause-blocks : goal.returns-in_ok-other-in-OneKey-clause-blocks
-returns-in_ok-other-in-OneKey-clause-blocks c =
+returns-in_ok-other-in-OneKey-clause-blocks g c =
     subst (λ (t : Test). OnOk c.branch_on_key.result (AddsBlocks (length (named_by t)) c.args.bx.now c.branch_on_key.new.bx c.args.blocks.now.items c.block_for.new.blocks.items)) (sym c.in-OneKey.is)
     (adds_ended (length (number_of c.in-OneKey.other)) 0 c.args.bx.now c.block_for.new.bx c.branch_on_key.new.bx c.args.blocks.now.items c.block_for.new.blocks.items c.branch_on_key.result c.requires.current
     (stays_went c.args.bx.now c.block_for.new.bx c.in_ok-other-in-OneKey.other c.in_ok-other-in-OneKey.ensures.here) c.branch_on_key.ensures.ends c.in_ok-other-in-OneKey.ensures.blocks)
 
 pub returns-in_ok-other-in-OneKey-clause-made : goal.returns-in_ok-other-in-OneKey-clause-made
-returns-in_ok-other-in-OneKey-clause-made c = λ signature calls s cases plain at names needs zip.
+returns-in_ok-other-in-OneKey-clause-made g c = λ signature calls s cases plain at names needs zip.
     let place : ℕ = next_place calls plain in
     let target = c.in_ok-other-in-OneKey.ensures.made signature calls s cases plain at names zip in
     let filled : 0 < length c.in-OneKey.range.now.blocks.items = subst HasItsBlock c.in-OneKey.is c.requires.filled in
@@ -64,7 +64,7 @@ returns-in_ok-other-in-OneKey-clause-made c = λ signature calls s cases plain a
     (names_after target.0.on.later line c.branch_on_key.new.bx all c.block_for.new.blocks.items c.branch_on_key.result target.1 branch))
 
 pub returns-in_ok-above-in-NotBelow-clause-ends : goal.returns-in_ok-above-in-NotBelow-clause-ends
-returns-in_ok-above-in-NotBelow-clause-ends c =
+returns-in_ok-above-in-NotBelow-clause-ends g c =
     subst (λ (t : Test). EndsBlock {A = Unit {0}} (tables_of t) c.args.bx.now c.branch_on.new.bx c.branch_on.result) (sym c.in-NotBelow.is)
     (ends_behind 0 c.args.bx.now c.new_block.new.bx c.branch_on.new.bx c.branch_on.result
     (went_then c.args.bx.now c.block_for-in-NotBelow.new.bx c.new_block.new.bx
@@ -72,7 +72,7 @@ returns-in_ok-above-in-NotBelow-clause-ends c =
     (stays_went c.block_for-in-NotBelow.new.bx c.new_block.new.bx c.in_ok-above-in-NotBelow.above c.in_ok-above-in-NotBelow.ensures.here)) c.branch_on.ensures.ends)
 
 pub returns-in_ok-above-in-NotBelow-clause-blocks : goal.returns-in_ok-above-in-NotBelow-clause-blocks
-returns-in_ok-above-in-NotBelow-clause-blocks c =
+returns-in_ok-above-in-NotBelow-clause-blocks g c =
     let first = stays_went c.args.bx.now c.block_for-in-NotBelow.new.bx c.in_ok-other-in-NotBelow.other c.in_ok-other-in-NotBelow.ensures.here in
     let next = stays_went c.block_for-in-NotBelow.new.bx c.new_block.new.bx c.in_ok-above-in-NotBelow.above c.in_ok-above-in-NotBelow.ensures.here in
     let numbers : List ℕ = number_of c.in-NotBelow.other in
@@ -84,7 +84,7 @@ returns-in_ok-above-in-NotBelow-clause-blocks c =
     c.in_ok-above-in-NotBelow.ensures.added (let one = long numbers (c.in-NotBelow.above ∷ []) in omega (arith, one))))
 
 pub returns-in_ok-above-in-NotBelow-clause-made : goal.returns-in_ok-above-in-NotBelow-clause-made
-returns-in_ok-above-in-NotBelow-clause-made c = λ signature calls s cases plain at names needs zip.
+returns-in_ok-above-in-NotBelow-clause-made g c = λ signature calls s cases plain at names needs zip.
     let place : ℕ = next_place calls plain in
     let target = c.in_ok-other-in-NotBelow.ensures.made signature calls s cases plain at names zip in
     let made : Script = block_for c.in-NotBelow.other in
@@ -108,7 +108,7 @@ returns-in_ok-above-in-NotBelow-clause-made c = λ signature calls s cases plain
     (names_after second.on.later line c.branch_on.new.bx all c.new_block.new.blocks.items c.branch_on.result zipped branch)))
 
 pub returns-in-Table-clause-made : goal.returns-in-Table-clause-made
-returns-in-Table-clause-made c = λ signature calls s cases plain at names needs zip.
+returns-in-Table-clause-made g c = λ signature calls s cases plain at names needs zip.
     let here = subst (λ (t : Test). All (Contains cases) (cases_in t)) c.in-Table.is needs in
     subst (λ (t : Test). OnOk c.emit_table.result ((on : StandsOn at (test_calls s (tables_at at) t (next_place calls plain)) c.emit_table.new.bx)
     × AllZip (NamesBlock (calls ++ on.later.added)) (names ++ blocks_of t (next_place calls plain)) c.args.blocks.now.items)) (sym c.in-Table.is)

@@ -9,19 +9,19 @@ use Rattle.clif_switch.proofs.Steps.{call_steps, entered_steps, steps_fails}
 use Rattle.clif_switch.proofs.emission.enter.Goals as goal
 
 pub returns-in_err-seal_block-clause-steps : goal.returns-in_err-seal_block-clause-steps
-returns-in_err-seal_block-clause-steps c =
+returns-in_err-seal_block-clause-steps g c =
     let failed = c.in_err-seal_block.ensures in
     steps_fails c.args.bx.now c.seal_block.new.self c.from_residual.result c.in_err-seal_block.field-0.0
     (call_steps {A = Unit {0}} c.args.bx.now c.seal_block.new.self (Err c.in_err-seal_block.field-0.0) failed.call failed.variables tt (λ x b. tt)) c.from_residual.ensures.1
 
 pub returns-clause-steps : goal.returns-clause-steps
-returns-clause-steps c =
+returns-clause-steps g c =
     let sealed = c.in_ok-seal_block.ensures in
     entered_steps c.args.bx.now c.seal_block.new.self c.switch_to_block.new.self c.in_ok-seal_block.field-0 c.args.block
     (call_steps c.args.bx.now c.seal_block.new.self (Ok c.in_ok-seal_block.field-0) sealed.call sealed.variables sealed.grows sealed.remembers) c.switch_to_block.ensures.builder
 
 pub returns-clause-made : goal.returns-clause-made
-returns-clause-made c = λ signature calls s x otherwise cases plain at name names.
+returns-clause-made g c = λ signature calls s x otherwise cases plain at name names.
     let reads = c.ledger_is_read_by_number.ensures in
     let one : StandsOn at (SealBlock name ∷ []) c.seal_block.new.self =
     stands_behind reads at (answered (SealBlock name) [] ∷ []) (SealBlock name ∷ []) c.seal_block.new.self refl

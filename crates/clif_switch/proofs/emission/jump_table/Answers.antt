@@ -9,13 +9,13 @@ use Rattle.clif_switch.proofs.Edges.{all_taken, edges_pushed, kept_first, kept_o
 use Rattle.clif_switch.proofs.emission.jump_table.Goals as goal
 
 pub returns-then-is_err : goal.returns-then-is_err
-returns-then-is_err c =
+returns-then-is_err g c =
     table_refused _ c.args.bx.now c.block_call-in-loop-block.new.self c.refuse.new.self c.refuse.result (shapes.unary_imm (pos 0)) type.Invalid
     (kept_on c.args.bx.now c.loop-block.bx c.block_call-in-loop-block.new.self c.loop-block.invariant.0 (kept_first c.loop-block.bx c.block_call-in-loop-block.new.self _ [] c.in_ok-entry.entry c.in_ok-entry.ensures))
     (c.refuse.ensures.refused (shapes.unary_imm (pos 0)) type.Invalid)
 
 pub loop-block-preserved : goal.loop-block-preserved
-loop-block-preserved c =
+loop-block-preserved g c =
     let pushed : c.push.new.self.items ≡ c.loop-block.entries.items ++ c.in_ok-entry.entry ∷ [] = grind (arith, common_steps, c.push.ensures.items, c.is_err.ensures.value, c.is_err.ensures.negation, c.if-is_err.false) in (
       kept_on c.args.bx.now c.loop-block.bx c.block_call-in-loop-block.new.self c.loop-block.invariant.0 (kept_first c.loop-block.bx c.block_call-in-loop-block.new.self _ [] c.in_ok-entry.entry c.in_ok-entry.ensures),
       c.loop-block.invariant.1,
@@ -23,12 +23,12 @@ loop-block-preserved c =
     )
 
 pub returns-in_default : goal.returns-in_default
-returns-in_default c =
+returns-in_default g c =
     table_refused _ c.args.bx.now c.loop-block.bx c.refuse-in_default.new.self c.refuse-in_default.result (shapes.unary_imm (pos 0)) type.Invalid c.loop-block.invariant.0
     (c.refuse-in_default.ensures.refused (shapes.unary_imm (pos 0)) type.Invalid)
 
 pub returns : goal.returns
-returns c =
+returns g c =
     subst (λ (edges : List BlockCall). MakesTable edges c.args.bx.now c.create_jump_table.new.self c.create_jump_table.result)
     (sym (table_is c.in_ok-default.default c.in-Ok.table c.loop-block.entries.items c.args.blocks.now c.args.otherwise c.loop-block.invariant.1
     (all_taken c.loop-block.entries.items c.args.blocks.now c.loop-block.block-index c.loop-block-test.false c.loop-block.invariant.2) c.in-Ok.ensures.ok))

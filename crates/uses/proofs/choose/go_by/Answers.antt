@@ -5,7 +5,7 @@ use Rattle.uses.proofs.Cases.{both_lead}
 use Rattle.uses.proofs.choose.go_by.Goals as goal
 
 pub emit-requires : goal.emit-requires
-emit-requires c =
+emit-requires g c =
     let empty : c.new-switch.result ≡ map.empty = search rules in
     record {
       current = c.requires.current;

@@ -2,32 +2,33 @@
 use Rattle.std.proofs.Common.{◌<◌, length, refl, sym, subst}
 use Rattle.clif_builder.specs.declared.builder.FunctionBuilder.{FunctionBuilder}
 use Rattle.uses.proofs.Lasting.{Keeps, IsOpen, and_then, called, carries_kept, assigned, valued, lent_on, made_open, open_kept, open_ended, open_moved, one_exists, typed_alike, declared}
+use Rattle.uses.proofs.straight_line.straight_line.Given.{Over}
 use Rattle.uses.proofs.straight_line.straight_line.Goals as goal
 use Rattle.uses.proofs.straight_line.straight_line.Goals.{After-ins-2, After-ins-3}
 
-seven : (c : After-ins-2) → Keeps c.use_var.new.self c.builder-6-1.given.0
-seven c = valued c.ins.ensures.builder c.in_ok-seven.ensures.built (c.builder-6-1.given.1 (sym c.ins.ensures.same))
+seven : (g : Over) (c : After-ins-2 g) → Keeps c.use_var.new.self c.builder-6-1.given.0
+seven g c = valued c.ins.ensures.builder c.in_ok-seven.ensures.built (c.builder-6-1.given.1 (sym c.ins.ensures.same))
 
 pub def_var-requires-clause-same_type : goal.def_var-requires-clause-same_type
-def_var-requires-clause-same_type c =
+def_var-requires-clause-same_type g c =
     let before = c.in_ok-before.ensures in
     typed_alike c.in_ok-x.x c.in_ok-before.before before.typed before.variables before.exists
-    (carries_kept (lent_on (seven (goal.at.def_var-requires-clause-same_type c).After-ins-2) c.ins-2.ensures.builder))
+    (carries_kept (lent_on (seven g (goal.at.def_var-requires-clause-same_type g c).After-ins-2) c.ins-2.ensures.builder))
     c.in_ok-sum.ensures.built (c.builder-8-1.given.1 (sym c.ins-2.ensures.same)) refl
 
 pub use_var-requires-2-clause-declared : goal.use_var-requires-2-clause-declared
-use_var-requires-2-clause-declared c =
+use_var-requires-2-clause-declared g c =
     let before = c.in_ok-before.ensures in
     let assigned_x = c.in_ok-def_var.ensures in
     let first : Keeps c.switch_to_block.new.self c.use_var.new.self = called before.call before.grows before.seals before.variables in
     let sum : Keeps c.builder-6-1.given.0 c.builder-8-1.given.0 = valued c.ins-2.ensures.builder c.in_ok-sum.ensures.built (c.builder-8-1.given.1 (sym c.ins-2.ensures.same)) in
     let made : Keeps c.switch_to_block.new.self c.def_var.new.self =
-    and_then first (and_then (seven (goal.at.use_var-requires-2-clause-declared c).After-ins-2) (and_then sum
+    and_then first (and_then (seven g (goal.at.use_var-requires-2-clause-declared g c).After-ins-2) (and_then sum
     (assigned assigned_x.call assigned_x.grows assigned_x.sealed assigned_x.variables))) in
-    declared c.switch_to_block.new.self.ctx.now.variables c.in_ok-x.x _ before.typed made.variables
+    declared c.switch_to_block.new.self.ctx.now.parts.variables c.in_ok-x.x _ before.typed made.variables
 
-block_kept : (c : After-ins-3) → Keeps c.switch_to_block.new.self c.ins-3.result.now
-block_kept c =
+block_kept : (g : Over) (c : After-ins-3 g) → Keeps c.switch_to_block.new.self c.ins-3.result.now
+block_kept g c =
     let before = c.in_ok-before.ensures in
     let after = c.in_ok-after.ensures in
     let assigned_x = c.in_ok-def_var.ensures in
@@ -37,22 +38,22 @@ block_kept c =
     (and_then (assigned assigned_x.call assigned_x.grows assigned_x.sealed assigned_x.variables) (called after.call after.grows after.seals after.variables)))))
     c.ins-3.ensures.builder
 
-block_open : (c : After-ins-3) → IsOpen c.ins-3.result.now c.in_ok-block.block
-block_open c =
+block_open : (g : Over) (c : After-ins-3 g) → IsOpen c.ins-3.result.now c.in_ok-block.block
+block_open g c =
     let made = c.in_ok-block.ensures in
     let opened : IsOpen c.create_block.new.self c.in_ok-block.block = made_open made.exists made.untouched in
-    open_kept (block_kept c) (open_moved c.in_ok-block.block c.switch_to_block.ensures.builder opened)
+    open_kept (block_kept g c) (open_moved c.in_ok-block.block c.switch_to_block.ensures.builder opened)
 
 pub return_-requires-clause-values_exist : goal.return_-requires-clause-values_exist
-return_-requires-clause-values_exist c =
-    one_exists (subst (λ (b : FunctionBuilder). c.in_ok-after.after < length b.func.now.values) (sym c.ins-3.ensures.builder) c.in_ok-after.ensures.exists)
+return_-requires-clause-values_exist g c =
+    one_exists (subst (λ (b : FunctionBuilder _). c.in_ok-after.after < length b.func.now.values) (sym c.ins-3.ensures.builder) c.in_ok-after.ensures.exists)
 
 pub seal_block-requires-clause-unsealed : goal.seal_block-requires-clause-unsealed
-seal_block-requires-clause-unsealed c =
+seal_block-requires-clause-unsealed g c =
     (open_ended c.in_ok-return_.ensures.built (c.builder-12-1.given.1 (sym c.ins-3.ensures.same))
-    (block_open (goal.at.seal_block-requires-clause-unsealed c).After-ins-3)).unsealed
+    (block_open g (goal.at.seal_block-requires-clause-unsealed g c).After-ins-3)).unsealed
 
 pub seal_block-requires-clause-exists : goal.seal_block-requires-clause-exists
-seal_block-requires-clause-exists c =
+seal_block-requires-clause-exists g c =
     (open_ended c.in_ok-return_.ensures.built (c.builder-12-1.given.1 (sym c.ins-3.ensures.same))
-    (block_open (goal.at.seal_block-requires-clause-exists c).After-ins-3)).exists
+    (block_open g (goal.at.seal_block-requires-clause-exists g c).After-ins-3)).exists

@@ -9,23 +9,23 @@ use Rattle.clif_builder.proofs.Fitting.{fits_grown}
 use Rattle.clif_builder.proofs.builder.FunctionBuilder.append_block_param.Goals as goal
 
 pub invariant_of-self : goal.invariant_of-self
-invariant_of-self c =
+invariant_of-self g c =
     let done = c.append_block_param-appended.ensures in
     record {
       named = kept_by c.append_block_param-appended.result _ _ _ _ _ _ c.if-self.false c.is_err-self.ensures.value
           (names_param c.append_block_param-appended.result _ _ _ c.args.block c.args.ty done.ok done.err)
-          (order-more c.append_block_param-appended.result c.args.self.now.func.now _ c.args.self.now.ctx.now c.args.block (c.args.ty ∷ []) c.law_consistent.ensures c.requires.exists c.requires.pristine done.ok)
-          (λ order fits. fits_grown c.append_block_param-appended.result c.args.self.now.func.now _ c.args.self.now.ctx.now
+          (order-more c.append_block_param-appended.result c.args.self.now.func.now _ c.args.self.now.ctx.now.parts c.args.block (c.args.ty ∷ []) c.law_consistent.ensures c.requires.exists c.requires.pristine done.ok)
+          (λ order fits. fits_grown c.append_block_param-appended.result c.args.self.now.func.now _ c.args.self.now.ctx.now.parts
           (more-types c.append_block_param-appended.result c.args.self.now.func.now _ c.args.block (c.args.ty ∷ []) done.ok) fits)
           c.args.self.now.named;
     }
 
 pub returns-clause-typed : goal.returns-clause-typed
-returns-clause-typed c =
+returns-clause-typed g c =
     param-typed c.append_block_param-appended.result c.args.self.now.func.now _ c.args.block c.args.ty c.append_block_param-appended.ensures.ok c.append_block_param-appended.ensures.number
 
 pub returns-clause-told : goal.returns-clause-told
-returns-clause-told c = λ name.
+returns-clause-told g c = λ name.
     told_by c.args.self.now _ c.append_block_param-appended.result _ _
     (λ calls agrees names.
     let done = c.append_block_param-appended.ensures in
@@ -35,11 +35,11 @@ returns-clause-told c = λ name.
     one_stands calls _ _ _ _ c.args.block name signature c.args.ty _ stands c.law_consistent.ensures names c.requires.exists c.requires.pristine done.ok done.number)
 
 pub returns-clause-call : goal.returns-clause-call
-returns-clause-call c =
-    made c.args.self.now _ c.append_block_param-appended.result (record { func = refl; ctx = refl }) refl refl c.if-self.false c.append_block_param-appended.ensures.never_failed c.is_err-self.ensures.value
+returns-clause-call g c =
+    made c.args.self.now _ c.append_block_param-appended.result (record { func = refl; ctx = refl; region = refl }) refl refl c.if-self.false c.append_block_param-appended.ensures.never_failed c.is_err-self.ensures.value
     (λ once. once) (more-types c.append_block_param-appended.result c.args.self.now.func.now _ c.args.block (c.args.ty ∷ []) c.append_block_param-appended.ensures.ok)
-    (filled-same c.append_block_param-appended.result c.args.self.now.ctx.now c.args.self.now.ctx.now refl)
+    (filled-same c.append_block_param-appended.result c.args.self.now.ctx.now.parts c.args.self.now.ctx.now.parts refl)
 
 pub returns-clause-remembers : goal.returns-clause-remembers
-returns-clause-remembers c = λ x b.
+returns-clause-remembers g c = λ x b.
     remembers_params c.append_block_param-appended.result x b _ _ _ c.args.block (c.args.ty ∷ []) c.law_consistent.ensures c.requires.exists c.append_block_param-appended.ensures.ok

@@ -10,18 +10,18 @@ use Rattle.clif_builder.proofs.Fitting.{fits_grown}
 use Rattle.clif_builder.proofs.builder.FunctionBuilder.append_block_params_for_function_params.Goals as goal
 
 pub invariant_of-self : goal.invariant_of-self
-invariant_of-self c =
+invariant_of-self g c =
     let done = c.append_function_params-appended.ensures in
     record {
       named = kept_by c.append_function_params-appended.result _ _ _ _ _ _ c.if-self.false c.is_err-self.ensures.value (names_grow _ _ _ done.grows)
-          (order-more c.append_function_params-appended.result c.args.self.now.func.now _ c.args.self.now.ctx.now c.args.block (types_of c.args.self.now.func.now.signature.params) c.law_consistent.ensures c.requires.exists c.requires.pristine done.ok)
-          (λ order fits. fits_grown c.append_function_params-appended.result c.args.self.now.func.now _ c.args.self.now.ctx.now
+          (order-more c.append_function_params-appended.result c.args.self.now.func.now _ c.args.self.now.ctx.now.parts c.args.block (types_of c.args.self.now.func.now.signature.params) c.law_consistent.ensures c.requires.exists c.requires.pristine done.ok)
+          (λ order fits. fits_grown c.append_function_params-appended.result c.args.self.now.func.now _ c.args.self.now.ctx.now.parts
           (more-types c.append_function_params-appended.result c.args.self.now.func.now _ c.args.block (types_of c.args.self.now.func.now.signature.params) done.ok) fits)
           c.args.self.now.named;
     }
 
 pub returns-clause-told : goal.returns-clause-told
-returns-clause-told c = λ name.
+returns-clause-told g c = λ name.
     told c.args.self.now _ c.append_function_params-appended.result _ _
     (λ calls agrees names.
     many_agree calls _ _ _ _ c.args.block name (types_of c.args.self.now.func.now.signature.params) (AppendFunctionParams name (types_of c.args.self.now.func.now.signature.params)) _ (inr refl)
@@ -31,11 +31,11 @@ returns-clause-told c = λ name.
     stands c.law_consistent.ensures names c.requires.exists c.requires.pristine c.append_function_params-appended.ensures.ok)
 
 pub returns-clause-call : goal.returns-clause-call
-returns-clause-call c =
-    made c.args.self.now _ c.append_function_params-appended.result (record { func = refl; ctx = refl }) refl refl c.if-self.false c.append_function_params-appended.ensures.never_failed c.is_err-self.ensures.value
+returns-clause-call g c =
+    made c.args.self.now _ c.append_function_params-appended.result (record { func = refl; ctx = refl; region = refl }) refl refl c.if-self.false c.append_function_params-appended.ensures.never_failed c.is_err-self.ensures.value
     (λ once. once) (more-types c.append_function_params-appended.result c.args.self.now.func.now _ c.args.block (types_of c.args.self.now.func.now.signature.params) c.append_function_params-appended.ensures.ok)
-    (filled-same c.append_function_params-appended.result c.args.self.now.ctx.now c.args.self.now.ctx.now refl)
+    (filled-same c.append_function_params-appended.result c.args.self.now.ctx.now.parts c.args.self.now.ctx.now.parts refl)
 
 pub returns-clause-remembers : goal.returns-clause-remembers
-returns-clause-remembers c = λ x b.
+returns-clause-remembers g c = λ x b.
     remembers_params c.append_function_params-appended.result x b _ _ _ c.args.block (types_of c.args.self.now.func.now.signature.params) c.law_consistent.ensures c.requires.exists c.append_function_params-appended.ensures.ok

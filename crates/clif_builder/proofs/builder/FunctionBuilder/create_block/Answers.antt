@@ -10,7 +10,7 @@ use Rattle.clif_builder.proofs.Fitting.{fits_kept, on_ok_all}
 use Rattle.clif_builder.proofs.builder.FunctionBuilder.create_block.Goals as goal
 
 pub returns-clause-told : goal.returns-clause-told
-returns-clause-told c =
+returns-clause-told g c =
     told_by c.args.self.now _ c.make_block-made.result _ _
     (λ calls agrees _.
     let made = c.make_block-made.ensures in
@@ -20,24 +20,24 @@ returns-clause-told c =
     created_stands signature calls _ _ _ _ _ _ stands made.function made.records made.sealed made.predecessors made.status made.tracking ledger)
 
 pub returns-clause-call : goal.returns-clause-call
-returns-clause-call c =
-    made c.args.self.now _ c.make_block-made.result (record { func = refl; ctx = refl }) refl refl c.if-self.false c.make_block-made.ensures.never_failed c.is_err-self.ensures.value
+returns-clause-call g c =
+    made c.args.self.now _ c.make_block-made.result (record { func = refl; ctx = refl; region = refl }) refl refl c.if-self.false c.make_block-made.ensures.never_failed c.is_err-self.ensures.value
     c.make_block-made.ensures.looks_once (made-types c.make_block-made.result _ _ c.make_block-made.ensures.function)
-    (filled-same c.make_block-made.result c.args.self.now.ctx.now c.make_block-made.new.ctx c.make_block-made.ensures.status)
+    (filled-same c.make_block-made.result c.args.self.now.ctx.now.parts c.make_block-made.new.ctx c.make_block-made.ensures.status)
 
 pub returns-clause-remembers : goal.returns-clause-remembers
-returns-clause-remembers c = λ x b.
+returns-clause-remembers g c = λ x b.
     let made = c.make_block-made.ensures in
     remembers_created c.make_block-made.result x b _ _ _ _ made.function made.records
 
 pub returns-clause-untouched : goal.returns-clause-untouched
-returns-clause-untouched c =
+returns-clause-untouched g c =
     let made = c.make_block-made.ensures in
-    created-untouched c.make_block-made.result c.args.self.now.func.now c.args.self.now.ctx.now c.make_block-made.new.ctx
+    created-untouched c.make_block-made.result c.args.self.now.func.now c.args.self.now.ctx.now.parts c.make_block-made.new.ctx
     made.number made.sealed made.predecessors made.status (kept_fresh _ _ _ c.if-self.false c.args.self.now.named)
 
 pub invariant_of-self : goal.invariant_of-self
-invariant_of-self c =
+invariant_of-self g c =
     let made = c.make_block-made.ensures in
     record {
       named = kept_by c.make_block-made.result _ _ _ _ _ _ c.if-self.false c.is_err-self.ensures.value made.names

@@ -6,17 +6,17 @@ use Rattle.clif_builder.proofs.Tabling.{exception_created_aside, table_created, 
 use Rattle.clif_builder.proofs.builder.FunctionBuilder.create_exception_table.Goals as goal
 
 pub returns-then-self : goal.returns-then-self
-returns-then-self c = table_refused exception_tables (exception_shape c.args.table) c.args.self.now c.if-self.true
+returns-then-self g c = table_refused exception_tables (exception_shape c.args.table) c.args.self.now c.if-self.true
 
 pub returns : goal.returns
-returns c =
-    table_created exception_tables (exception_shape c.args.table) c.args.self.now _ c.create_exception_table-made.result (exception_created_aside c.args.self.now.func.now (exception_shape c.args.table)) refl c.if-self.false (record { func = refl; ctx = refl }) refl refl refl
+returns g c =
+    table_created exception_tables (exception_shape c.args.table) c.args.self.now _ c.create_exception_table-made.result (exception_created_aside c.args.self.now.func.now (exception_shape c.args.table)) refl c.if-self.false (record { func = refl; ctx = refl; region = refl }) refl refl refl
     c.is_err-self.ensures.value c.law_consistent.ensures c.create_exception_table-made.ensures
 
 pub invariant_of-self : goal.invariant_of-self
-invariant_of-self c = record {
+invariant_of-self g c = record {
   named =
       let makes = c.create_exception_table-made.ensures in
-      tables_kept _ c.create_exception_table-made.result c.args.self.now.func.now _ c.args.self.now.ctx.now _ _ (exception_created_aside c.args.self.now.func.now (exception_shape c.args.table)).constants c.if-self.false
+      tables_kept _ c.create_exception_table-made.result c.args.self.now.func.now _ c.args.self.now.ctx.now.parts _ _ (exception_created_aside c.args.self.now.func.now (exception_shape c.args.table)).constants c.if-self.false
       c.is_err-self.ensures.value makes.ok makes.err c.args.self.now.named;
 }

@@ -12,26 +12,26 @@ use Rattle.clif_builder.proofs.Fitting.{fits_declared}
 use Rattle.clif_builder.proofs.builder.FunctionBuilder.declare_var.Goals as goal
 
 pub returns-clause-told : goal.returns-clause-told
-returns-clause-told c =
+returns-clause-told g c =
     told_by c.args.self.now _ c.declare_var-declared.result _ _
     (λ calls agrees _. declared calls _ _ _ _ c.args.ty _ agrees c.declare_var-declared.ensures.ok c.declare_var-declared.ensures.number)
     (λ signature calls stands _ ledger.
     declared_stands signature calls _ _ _ _ c.args.ty _ stands c.declare_var-declared.ensures.ok ledger)
 
 pub returns-clause-call : goal.returns-clause-call
-returns-clause-call c =
-    made c.args.self.now _ c.declare_var-declared.result (record { func = refl; ctx = refl }) refl refl c.if-self.false c.declare_var-declared.ensures.never_failed c.is_err-self.ensures.value
+returns-clause-call g c =
+    made c.args.self.now _ c.declare_var-declared.result (record { func = refl; ctx = refl; region = refl }) refl refl c.if-self.false c.declare_var-declared.ensures.never_failed c.is_err-self.ensures.value
     (same_looks _ _ c.declare_var-declared.ensures.ssa) (same-types c.declare_var-declared.result c.args.self.now.func.now)
-    (filled-declared c.declare_var-declared.result c.args.self.now.ctx.now c.declare_var-declared.new.self _ c.declare_var-declared.ensures.ok)
+    (filled-declared c.declare_var-declared.result c.args.self.now.ctx.now.parts c.declare_var-declared.new.self _ c.declare_var-declared.ensures.ok)
 
 pub returns-clause-remembers : goal.returns-clause-remembers
-returns-clause-remembers c = λ x b. remembers_declared c.declare_var-declared.result x b c.args.self.now.func.now _ _ c.args.ty c.declare_var-declared.ensures.ok
+returns-clause-remembers g c = λ x b. remembers_declared c.declare_var-declared.result x b c.args.self.now.func.now _ _ c.args.ty c.declare_var-declared.ensures.ok
 
 pub invariant_of-self : goal.invariant_of-self
-invariant_of-self c = record {
+invariant_of-self g c = record {
   named = kept_by c.declare_var-declared.result _ _ _ _ _ _ c.if-self.false c.is_err-self.ensures.value
       (λ names. subst (NamesExist c.args.self.now.func.now) (sym c.declare_var-declared.ensures.ssa) names)
-      (order-declared c.declare_var-declared.result c.args.self.now.func.now c.args.self.now.ctx.now c.declare_var-declared.new.self c.args.ty c.declare_var-declared.ensures.ok)
-      (λ order fits. fits_declared c.declare_var-declared.result c.args.self.now.func.now c.args.self.now.ctx.now c.declare_var-declared.new.self c.args.ty c.declare_var-declared.ensures.ok fits)
+      (order-declared c.declare_var-declared.result c.args.self.now.func.now c.args.self.now.ctx.now.parts c.declare_var-declared.new.self c.args.ty c.declare_var-declared.ensures.ok)
+      (λ order fits. fits_declared c.declare_var-declared.result c.args.self.now.func.now c.args.self.now.ctx.now.parts c.declare_var-declared.new.self c.args.ty c.declare_var-declared.ensures.ok fits)
       c.args.self.now.named;
 }

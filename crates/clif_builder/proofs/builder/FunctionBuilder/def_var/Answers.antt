@@ -12,10 +12,10 @@ use Rattle.clif_builder.proofs.Fitting.{fits_bound}
 use Rattle.clif_builder.proofs.builder.FunctionBuilder.def_var.Goals as goal
 
 pub returns-clause-tracks : goal.returns-clause-tracks
-returns-clause-tracks c = binds c.def_var-recorded.result _ _ _ _ c.def_var-recorded.ensures.tracking
+returns-clause-tracks g c = binds c.def_var-recorded.result _ _ _ _ c.def_var-recorded.ensures.tracking
 
 pub returns-clause-told : goal.returns-clause-told
-returns-clause-told c = λ name.
+returns-clause-told g c = λ name.
     told c.args.self.now _ c.def_var-recorded.result _ _
     (λ calls agrees names.
     let done = c.def_var-recorded.ensures in
@@ -27,24 +27,24 @@ returns-clause-told c = λ name.
     done.blocks done.status ledger)
 
 pub returns-clause-call : goal.returns-clause-call
-returns-clause-call c =
-    made c.args.self.now _ c.def_var-recorded.result (record { func = refl; ctx = refl }) refl refl c.if-self.false (by_memory _ c.def_var-recorded.ensures.only_memory) c.is_err-self.ensures.value
+returns-clause-call g c =
+    made c.args.self.now _ c.def_var-recorded.result (record { func = refl; ctx = refl; region = refl }) refl refl c.if-self.false (by_memory _ c.def_var-recorded.ensures.only_memory) c.is_err-self.ensures.value
     c.def_var-recorded.ensures.looks_once (same-types c.def_var-recorded.result c.args.self.now.func.now)
-    (filled-same c.def_var-recorded.result c.args.self.now.ctx.now c.def_var-recorded.new.self c.def_var-recorded.ensures.status)
+    (filled-same c.def_var-recorded.result c.args.self.now.ctx.now.parts c.def_var-recorded.new.self c.def_var-recorded.ensures.status)
 
 pub returns-clause-remembers : goal.returns-clause-remembers
-returns-clause-remembers c = λ x b apart.
+returns-clause-remembers g c = λ x b apart.
     remembers_assigned c.def_var-recorded.result c.args.variable c.in-Some.block x b c.args.value _ _ _ _
     (λ first second. apart first (c.in-Some.is ∙ ap Some (sym second))) refl c.def_var-recorded.ensures.ok
 
 pub invariant_of-self : goal.invariant_of-self
-invariant_of-self c =
+invariant_of-self g c =
     let done = c.def_var-recorded.ensures in
     record {
       named = kept_by c.def_var-recorded.result _ _ _ _ _ _ c.if-self.false c.is_err-self.ensures.value (done.names _ c.requires.value_exists)
-          (order-assigned c.def_var-recorded.result c.args.self.now.func.now c.args.self.now.ctx.now c.def_var-recorded.new.self c.args.variable c.in-Some.block c.args.value _
+          (order-assigned c.def_var-recorded.result c.args.self.now.func.now c.args.self.now.ctx.now.parts c.def_var-recorded.new.self c.args.variable c.in-Some.block c.args.value _
           c.requires.same_type (c.requires.value_exists, refl) done.ok done.blocks done.status done.touches)
-          (λ order fits. fits_bound c.def_var-recorded.result c.args.self.now.func.now c.args.self.now.ctx.now c.def_var-recorded.new.self c.args.variable c.args.value c.requires.value_exists
+          (λ order fits. fits_bound c.def_var-recorded.result c.args.self.now.func.now c.args.self.now.ctx.now.parts c.def_var-recorded.new.self c.args.variable c.args.value c.requires.value_exists
           c.requires.same_type done.tracking done.variables fits)
           c.args.self.now.named;
     }

@@ -15,10 +15,10 @@ use Rattle.clif_builder.proofs.Fitting.{fits_sealed}
 use Rattle.clif_builder.proofs.builder.FunctionBuilder.seal_all_blocks.Goals as goal
 
 pub seal_all_blocks-sealed-requires : goal.seal_all_blocks-sealed-requires
-seal_all_blocks-sealed-requires c = record { named = opened _ _ _ c.args.self.now.named }
+seal_all_blocks-sealed-requires g c = record { named = opened _ _ _ c.args.self.now.named }
 
 pub returns-clause-told : goal.returns-clause-told
-returns-clause-told c =
+returns-clause-told g c =
     told c.args.self.now _ c.seal_all_blocks-sealed.result _ _
     (λ calls agrees _.
     sealed_all calls _ _ _ _ _ _ agrees c.seal_all_blocks-sealed.ensures.is_sealing c.law_consistent.ensures c.law_consistent-2.ensures c.seal_all_blocks-sealed.ensures.variables)
@@ -27,59 +27,59 @@ returns-clause-told c =
     ledger)
 
 pub returns-clause-call : goal.returns-clause-call
-returns-clause-call c =
-    made c.args.self.now _ c.seal_all_blocks-sealed.result (record { func = refl; ctx = refl }) refl refl c.if-self.false c.seal_all_blocks-sealed.ensures.never_failed c.is_err-self.ensures.value
-    c.seal_all_blocks-sealed.ensures.looks_once (sealed-types c.seal_all_blocks-sealed.result c.args.self.now.func.now c.seal_all_blocks-sealed.new.func c.args.self.now.ctx.now c.seal_all_blocks-sealed.new.self (λ b. ltb b (length c.args.self.now.func.now.blocks)) c.seal_all_blocks-sealed.ensures.is_sealing)
-    (sealed-filled c.seal_all_blocks-sealed.result c.args.self.now.func.now c.seal_all_blocks-sealed.new.func c.args.self.now.ctx.now c.seal_all_blocks-sealed.new.self (λ b. ltb b (length c.args.self.now.func.now.blocks)) c.seal_all_blocks-sealed.ensures.is_sealing)
+returns-clause-call g c =
+    made c.args.self.now _ c.seal_all_blocks-sealed.result (record { func = refl; ctx = refl; region = refl }) refl refl c.if-self.false c.seal_all_blocks-sealed.ensures.never_failed c.is_err-self.ensures.value
+    c.seal_all_blocks-sealed.ensures.looks_once (sealed-types c.seal_all_blocks-sealed.result c.args.self.now.func.now c.seal_all_blocks-sealed.new.func c.args.self.now.ctx.now.parts c.seal_all_blocks-sealed.new.self (λ b. ltb b (length c.args.self.now.func.now.blocks)) c.seal_all_blocks-sealed.ensures.is_sealing)
+    (sealed-filled c.seal_all_blocks-sealed.result c.args.self.now.func.now c.seal_all_blocks-sealed.new.func c.args.self.now.ctx.now.parts c.seal_all_blocks-sealed.new.self (λ b. ltb b (length c.args.self.now.func.now.blocks)) c.seal_all_blocks-sealed.ensures.is_sealing)
 
 pub returns-clause-sealed : goal.returns-clause-sealed
-returns-clause-sealed c =
-    all_sealed c.args.self.now.func.now c.seal_all_blocks-sealed.new.func c.args.self.now.ctx.now c.seal_all_blocks-sealed.new.self c.seal_all_blocks-sealed.result
+returns-clause-sealed g c =
+    all_sealed c.args.self.now.func.now c.seal_all_blocks-sealed.new.func c.args.self.now.ctx.now.parts c.seal_all_blocks-sealed.new.self c.seal_all_blocks-sealed.result
     c.seal_all_blocks-sealed.ensures.is_sealing
 
 pub returns-clause-edges_match : goal.returns-clause-edges_match
-returns-clause-edges_match c = λ signature calls stands typed.
-    sealed_edges signature calls _ _ _ stands c.seal_all_blocks-sealed.result (returns-clause-sealed c) typed
+returns-clause-edges_match g c = λ signature calls stands typed.
+    sealed_edges signature calls _ _ _ stands c.seal_all_blocks-sealed.result (returns-clause-sealed g c) typed
 
 pub returns-clause-grows : goal.returns-clause-grows
-returns-clause-grows c =
-    sealed_grows c.seal_all_blocks-sealed.result c.args.self.now.func.now c.args.self.now.ctx.now c.seal_all_blocks-sealed.new.func c.seal_all_blocks-sealed.new.self
+returns-clause-grows g c =
+    sealed_grows c.seal_all_blocks-sealed.result c.args.self.now.func.now c.args.self.now.ctx.now.parts c.seal_all_blocks-sealed.new.func c.seal_all_blocks-sealed.new.self
     (λ b. ltb b (length c.args.self.now.func.now.blocks)) c.seal_all_blocks-sealed.ensures.is_sealing
 
 pub returns-clause-current : goal.returns-clause-current
-returns-clause-current c =
-    sealed_current c.seal_all_blocks-sealed.result c.args.self.now.position c.args.self.now.func.now c.args.self.now.ctx.now c.seal_all_blocks-sealed.new.func c.seal_all_blocks-sealed.new.self
+returns-clause-current g c =
+    sealed_current c.seal_all_blocks-sealed.result c.args.self.now.position c.args.self.now.func.now c.args.self.now.ctx.now.parts c.seal_all_blocks-sealed.new.func c.seal_all_blocks-sealed.new.self
     (λ b. ltb b (length c.args.self.now.func.now.blocks)) c.seal_all_blocks-sealed.ensures.is_sealing
 
 pub returns-clause-remembers : goal.returns-clause-remembers
-returns-clause-remembers c = λ x b.
-    remembers_sealed c.seal_all_blocks-sealed.result x b c.args.self.now.func.now c.seal_all_blocks-sealed.new.func c.args.self.now.ctx.now c.seal_all_blocks-sealed.new.self
+returns-clause-remembers g c = λ x b.
+    remembers_sealed c.seal_all_blocks-sealed.result x b c.args.self.now.func.now c.seal_all_blocks-sealed.new.func c.args.self.now.ctx.now.parts c.seal_all_blocks-sealed.new.self
     (λ b. ltb b (length c.args.self.now.func.now.blocks)) c.seal_all_blocks-sealed.ensures.is_sealing
 
 pub returns-then-self-clause-parameters : goal.returns-then-self-clause-parameters
-returns-then-self-clause-parameters c = λ signature calls stands. sealed_parameters calls _ _ stands.carries
+returns-then-self-clause-parameters g c = λ signature calls stands. sealed_parameters calls _ _ stands.carries
 
 pub returns-clause-parameters : goal.returns-clause-parameters
-returns-clause-parameters c = λ signature calls stands. sealed_parameters calls _ _ stands.carries
+returns-clause-parameters g c = λ signature calls stands. sealed_parameters calls _ _ stands.carries
 
 pub returns-then-self-clause-constructs : goal.returns-then-self-clause-constructs
-returns-then-self-clause-constructs c = constructs_none _
+returns-then-self-clause-constructs g c = constructs_none _
 
 pub invariant_of-self : goal.invariant_of-self
-invariant_of-self c =
+invariant_of-self g c =
     let done = c.seal_all_blocks-sealed.ensures in
     record {
       named = kept_by c.seal_all_blocks-sealed.result _ _ _ _ _ _ c.if-self.false c.is_err-self.ensures.value (λ names. done.names)
-          (order-sealed-all c.seal_all_blocks-sealed.result c.args.self.now.func.now c.seal_all_blocks-sealed.new.func c.args.self.now.ctx.now c.seal_all_blocks-sealed.new.self done.is_sealing c.law_consistent.ensures c.law_consistent-2.ensures done.variables)
-          (fits_sealed c.seal_all_blocks-sealed.result c.args.self.now.func.now c.seal_all_blocks-sealed.new.func c.args.self.now.ctx.now c.seal_all_blocks-sealed.new.self (λ b. ltb b (length c.args.self.now.func.now.blocks)) done.is_sealing done.variables.0)
+          (order-sealed-all c.seal_all_blocks-sealed.result c.args.self.now.func.now c.seal_all_blocks-sealed.new.func c.args.self.now.ctx.now.parts c.seal_all_blocks-sealed.new.self done.is_sealing c.law_consistent.ensures c.law_consistent-2.ensures done.variables)
+          (fits_sealed c.seal_all_blocks-sealed.result c.args.self.now.func.now c.seal_all_blocks-sealed.new.func c.args.self.now.ctx.now.parts c.seal_all_blocks-sealed.new.self (λ b. ltb b (length c.args.self.now.func.now.blocks)) done.is_sealing done.variables.0)
           c.args.self.now.named;
     }
 
 pub returns-then-self-clause-pools : goal.returns-then-self-clause-pools
-returns-then-self-clause-pools c = first_pools c.args.self.now.func.now c.args.self.now.ctx.now.ssa
+returns-then-self-clause-pools g c = first_pools c.args.self.now.func.now c.args.self.now.ctx.now.parts.ssa
 
 pub returns-clause-pools : goal.returns-clause-pools
-returns-clause-pools c = c.seal_all_blocks-sealed.ensures.pools
+returns-clause-pools g c = c.seal_all_blocks-sealed.ensures.pools
 
 pub returns-clause-full : goal.returns-clause-full
-returns-clause-full c = c.seal_all_blocks-sealed.ensures.full
+returns-clause-full g c = c.seal_all_blocks-sealed.ensures.full

@@ -16,7 +16,7 @@ use Rattle.clif_builder.proofs.Fitting.{fits_sealed}
 use Rattle.clif_builder.proofs.builder.FunctionBuilder.seal_block.Goals as goal
 
 pub returns-clause-told : goal.returns-clause-told
-returns-clause-told c = λ name.
+returns-clause-told g c = λ name.
     told c.args.self.now _ c.seal_block-sealed.result _ _
     (λ calls agrees names.
     sealed calls _ _ _ _ _ name c.args.block _ agrees names c.seal_block-sealed.ensures.is_sealing c.law_consistent.ensures c.law_consistent-2.ensures c.seal_block-sealed.ensures.variables)
@@ -26,57 +26,57 @@ returns-clause-told c = λ name.
     ledger)
 
 pub returns-clause-call : goal.returns-clause-call
-returns-clause-call c =
-    made c.args.self.now _ c.seal_block-sealed.result (record { func = refl; ctx = refl }) refl refl c.if-self.false c.seal_block-sealed.ensures.never_failed c.is_err-self.ensures.value
-    c.seal_block-sealed.ensures.looks_once (sealed-types c.seal_block-sealed.result c.args.self.now.func.now c.seal_block-sealed.new.func c.args.self.now.ctx.now c.seal_block-sealed.new.self (λ b. b == c.args.block) c.seal_block-sealed.ensures.is_sealing)
-    (sealed-filled c.seal_block-sealed.result c.args.self.now.func.now c.seal_block-sealed.new.func c.args.self.now.ctx.now c.seal_block-sealed.new.self (λ b. b == c.args.block) c.seal_block-sealed.ensures.is_sealing)
+returns-clause-call g c =
+    made c.args.self.now _ c.seal_block-sealed.result (record { func = refl; ctx = refl; region = refl }) refl refl c.if-self.false c.seal_block-sealed.ensures.never_failed c.is_err-self.ensures.value
+    c.seal_block-sealed.ensures.looks_once (sealed-types c.seal_block-sealed.result c.args.self.now.func.now c.seal_block-sealed.new.func c.args.self.now.ctx.now.parts c.seal_block-sealed.new.self (λ b. b == c.args.block) c.seal_block-sealed.ensures.is_sealing)
+    (sealed-filled c.seal_block-sealed.result c.args.self.now.func.now c.seal_block-sealed.new.func c.args.self.now.ctx.now.parts c.seal_block-sealed.new.self (λ b. b == c.args.block) c.seal_block-sealed.ensures.is_sealing)
 
 pub returns-clause-grows : goal.returns-clause-grows
-returns-clause-grows c = sealed_grows c.seal_block-sealed.result c.args.self.now.func.now c.args.self.now.ctx.now c.seal_block-sealed.new.func c.seal_block-sealed.new.self (λ b. b == c.args.block) c.seal_block-sealed.ensures.is_sealing
+returns-clause-grows g c = sealed_grows c.seal_block-sealed.result c.args.self.now.func.now c.args.self.now.ctx.now.parts c.seal_block-sealed.new.func c.seal_block-sealed.new.self (λ b. b == c.args.block) c.seal_block-sealed.ensures.is_sealing
 
 pub returns-clause-current : goal.returns-clause-current
-returns-clause-current c = sealed_current c.seal_block-sealed.result c.args.self.now.position c.args.self.now.func.now c.args.self.now.ctx.now c.seal_block-sealed.new.func c.seal_block-sealed.new.self (λ b. b == c.args.block) c.seal_block-sealed.ensures.is_sealing
+returns-clause-current g c = sealed_current c.seal_block-sealed.result c.args.self.now.position c.args.self.now.func.now c.args.self.now.ctx.now.parts c.seal_block-sealed.new.func c.seal_block-sealed.new.self (λ b. b == c.args.block) c.seal_block-sealed.ensures.is_sealing
 
 pub seal_block-sealed-requires : goal.seal_block-sealed-requires
-seal_block-sealed-requires c = record { named = opened _ _ _ c.args.self.now.named }
+seal_block-sealed-requires g c = record { named = opened _ _ _ c.args.self.now.named }
 
 pub returns-then-self-clause-edges_match : goal.returns-then-self-clause-edges_match
-returns-then-self-clause-edges_match c = λ signature calls stands none_waits typed. standing_edges signature calls _ _ _ stands none_waits typed
+returns-then-self-clause-edges_match g c = λ signature calls stands none_waits typed. standing_edges signature calls _ _ _ stands none_waits typed
 
 pub returns-clause-edges_match : goal.returns-clause-edges_match
-returns-clause-edges_match c = λ signature calls stands none_waits typed. standing_edges signature calls _ _ _ stands none_waits typed
+returns-clause-edges_match g c = λ signature calls stands none_waits typed. standing_edges signature calls _ _ _ stands none_waits typed
 
 pub returns-clause-remembers : goal.returns-clause-remembers
-returns-clause-remembers c = λ x b.
-    remembers_sealed c.seal_block-sealed.result x b c.args.self.now.func.now c.seal_block-sealed.new.func c.args.self.now.ctx.now c.seal_block-sealed.new.self (λ b. b == c.args.block) c.seal_block-sealed.ensures.is_sealing
+returns-clause-remembers g c = λ x b.
+    remembers_sealed c.seal_block-sealed.result x b c.args.self.now.func.now c.seal_block-sealed.new.func c.args.self.now.ctx.now.parts c.seal_block-sealed.new.self (λ b. b == c.args.block) c.seal_block-sealed.ensures.is_sealing
 
 pub returns-then-self-clause-parameters : goal.returns-then-self-clause-parameters
-returns-then-self-clause-parameters c = λ signature calls stands. sealed_parameters calls _ _ stands.carries
+returns-then-self-clause-parameters g c = λ signature calls stands. sealed_parameters calls _ _ stands.carries
 
 pub returns-clause-parameters : goal.returns-clause-parameters
-returns-clause-parameters c = λ signature calls stands. sealed_parameters calls _ _ stands.carries
+returns-clause-parameters g c = λ signature calls stands. sealed_parameters calls _ _ stands.carries
 
 pub returns-then-self-clause-constructs : goal.returns-then-self-clause-constructs
-returns-then-self-clause-constructs c = constructs_none _
+returns-then-self-clause-constructs g c = constructs_none _
 
 pub returns-clause-others : goal.returns-clause-others
-returns-clause-others c = sealed-others c.seal_block-sealed.result c.args.self.now.func.now c.seal_block-sealed.new.func c.args.self.now.ctx.now c.seal_block-sealed.new.self c.args.block c.seal_block-sealed.ensures.is_sealing
+returns-clause-others g c = sealed-others c.seal_block-sealed.result c.args.self.now.func.now c.seal_block-sealed.new.func c.args.self.now.ctx.now.parts c.seal_block-sealed.new.self c.args.block c.seal_block-sealed.ensures.is_sealing
 
 pub invariant_of-self : goal.invariant_of-self
-invariant_of-self c =
+invariant_of-self g c =
     let done = c.seal_block-sealed.ensures in
     record {
       named = kept_by c.seal_block-sealed.result _ _ _ _ _ _ c.if-self.false c.is_err-self.ensures.value (λ names. done.names)
-          (order-sealed-one c.seal_block-sealed.result c.args.self.now.func.now c.seal_block-sealed.new.func c.args.self.now.ctx.now c.seal_block-sealed.new.self c.args.block c.requires.exists done.is_sealing c.law_consistent.ensures c.law_consistent-2.ensures done.variables)
-          (fits_sealed c.seal_block-sealed.result c.args.self.now.func.now c.seal_block-sealed.new.func c.args.self.now.ctx.now c.seal_block-sealed.new.self (λ b. b == c.args.block) done.is_sealing done.variables.0)
+          (order-sealed-one c.seal_block-sealed.result c.args.self.now.func.now c.seal_block-sealed.new.func c.args.self.now.ctx.now.parts c.seal_block-sealed.new.self c.args.block c.requires.exists done.is_sealing c.law_consistent.ensures c.law_consistent-2.ensures done.variables)
+          (fits_sealed c.seal_block-sealed.result c.args.self.now.func.now c.seal_block-sealed.new.func c.args.self.now.ctx.now.parts c.seal_block-sealed.new.self (λ b. b == c.args.block) done.is_sealing done.variables.0)
           c.args.self.now.named;
     }
 
 pub returns-then-self-clause-pools : goal.returns-then-self-clause-pools
-returns-then-self-clause-pools c = pool_none _ _
+returns-then-self-clause-pools g c = pool_none _ _
 
 pub returns-clause-pools : goal.returns-clause-pools
-returns-clause-pools c = c.seal_block-sealed.ensures.pools
+returns-clause-pools g c = c.seal_block-sealed.ensures.pools
 
 pub returns-clause-full : goal.returns-clause-full
-returns-clause-full c = c.seal_block-sealed.ensures.full
+returns-clause-full g c = c.seal_block-sealed.ensures.full

@@ -12,23 +12,23 @@ use Rattle.clif_builder.proofs.Fitting.{fits_still}
 use Rattle.clif_builder.proofs.builder.FunctionBuilder.set_cold_block.Goals as goal
 
 pub invariant_of-self : goal.invariant_of-self
-invariant_of-self c = record {
-  named = kept_still c.args.self.now.func.now _ c.args.self.now.ctx.now _ _
-      (λ names. subst (λ (f : Body). NamesExist f c.args.self.now.ctx.now.ssa) (sym c.set_cold_block.ensures) (names_cold c.args.self.now.func.now c.args.self.now.ctx.now.ssa c.args.block names))
-      (λ order. subst (λ (f : Body). IsInOrder f c.args.self.now.ctx.now) (sym c.set_cold_block.ensures) (order-cold c.args.self.now.func.now c.args.self.now.ctx.now c.args.block order))
-      (fits_still c.args.self.now.func.now _ c.args.self.now.ctx.now (λ v there. ap (λ (h : Body). (value_at h v).ty) c.set_cold_block.ensures))
+invariant_of-self g c = record {
+  named = kept_still c.args.self.now.func.now _ c.args.self.now.ctx.now.parts _ _
+      (λ names. subst (λ (f : Body). NamesExist f c.args.self.now.ctx.now.parts.ssa) (sym c.set_cold_block.ensures) (names_cold c.args.self.now.func.now c.args.self.now.ctx.now.parts.ssa c.args.block names))
+      (λ order. subst (λ (f : Body). IsInOrder f c.args.self.now.ctx.now.parts) (sym c.set_cold_block.ensures) (order-cold c.args.self.now.func.now c.args.self.now.ctx.now.parts c.args.block order))
+      (fits_still c.args.self.now.func.now _ c.args.self.now.ctx.now.parts (λ v there. ap (λ (h : Body). (value_at h v).ty) c.set_cold_block.ensures))
       c.args.self.now.named;
 }
 
 pub returns-clause-ledger : goal.returns-clause-ledger
-returns-clause-ledger c = λ calls name agrees names.
+returns-clause-ledger g c = λ calls name agrees names.
     let after : List AnsweredCall = calls ++ record { request = SetColdBlock name; numbers = [] } ∷ [] in
-    subst (λ (f : Body). LedgerAgrees after (ledger_of after) f c.args.self.now.ctx.now c.args.self.now.position) (sym c.set_cold_block.ensures)
-    (cold calls c.args.self.now.func.now c.args.self.now.ctx.now c.args.self.now.position name c.args.block agrees names)
+    subst (λ (f : Body). LedgerAgrees after (ledger_of after) f c.args.self.now.ctx.now.parts c.args.self.now.position) (sym c.set_cold_block.ensures)
+    (cold calls c.args.self.now.func.now c.args.self.now.ctx.now.parts c.args.self.now.position name c.args.block agrees names)
 
 pub returns-clause-stands : goal.returns-clause-stands
-returns-clause-stands c = λ signature calls name stands names.
+returns-clause-stands g c = λ signature calls name stands names.
     let after : List AnsweredCall = calls ++ record { request = SetColdBlock name; numbers = [] } ∷ [] in
-    subst (λ (f : Body). StandsIn signature after f c.args.self.now.ctx.now c.args.self.now.position) (sym c.set_cold_block.ensures)
-    (cold_stands signature calls c.args.self.now.func.now c.args.self.now.ctx.now c.args.self.now.position name c.args.block stands
-    (cold calls c.args.self.now.func.now c.args.self.now.ctx.now c.args.self.now.position name c.args.block stands.ledger names))
+    subst (λ (f : Body). StandsIn signature after f c.args.self.now.ctx.now.parts c.args.self.now.position) (sym c.set_cold_block.ensures)
+    (cold_stands signature calls c.args.self.now.func.now c.args.self.now.ctx.now.parts c.args.self.now.position name c.args.block stands
+    (cold calls c.args.self.now.func.now c.args.self.now.ctx.now.parts c.args.self.now.position name c.args.block stands.ledger names))

@@ -5,16 +5,16 @@ use Rattle.clif_builder.proofs.Named.{same_builder}
 use Rattle.clif_builder.proofs.builder.FunctionBuilder.set_srcloc.Goals as goal
 
 pub returns-clause-builder : goal.returns-clause-builder
-returns-clause-builder c = same_builder (with_srcloc c.args.self.now c.args.srcloc) _
+returns-clause-builder g c = same_builder (with_srcloc c.args.self.now c.args.srcloc) _
 
 pub returns-clause-ledger : goal.returns-clause-ledger
-returns-clause-ledger c = λ calls agrees. agrees
+returns-clause-ledger g c = λ calls agrees. agrees
 
 pub returns-clause-stands : goal.returns-clause-stands
-returns-clause-stands c = λ signature calls stands. stands
+returns-clause-stands g c = λ signature calls stands. stands
 
 pub returns-clause-remembers : goal.returns-clause-remembers
-returns-clause-remembers c = λ x b. remembers_same x b _ _ _ _ refl refl
+returns-clause-remembers g c = λ x b. remembers_same x b _ _ _ _ refl refl
 
 pub returns-clause-current : goal.returns-clause-current
-returns-clause-current c = λ current. current
+returns-clause-current g c = λ current. current

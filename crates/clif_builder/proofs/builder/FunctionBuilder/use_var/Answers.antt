@@ -19,7 +19,7 @@ use Rattle.clif_builder.proofs.Fitting.{fits_used}
 use Rattle.clif_builder.proofs.builder.FunctionBuilder.use_var.Goals as goal
 
 pub returns-clause-told : goal.returns-clause-told
-returns-clause-told c =
+returns-clause-told g c =
     told_by c.args.self.now _ c.use_variable-used.result _ _
     (λ calls agrees _.
     used calls _ _ _ _ _ c.args.variable c.in-Some-var_type.ty c.in-Some.block _ agrees c.in-Some.is (sym c.var_type.ensures ∙ c.in-Some-var_type.is)
@@ -30,69 +30,69 @@ returns-clause-told c =
     c.use_variable-used.ensures.is_use c.law_consistent-2.ensures ledger)
 
 pub returns-clause-call : goal.returns-clause-call
-returns-clause-call c =
-    made c.args.self.now _ c.use_variable-used.result (record { func = refl; ctx = refl }) refl refl c.if-self.false c.use_variable-used.ensures.never_failed c.is_err-self.ensures.value
-    c.use_variable-used.ensures.looks_once (used-types c.use_variable-used.result c.args.self.now.func.now c.args.self.now.ctx.now c.use_variable-used.new.func c.use_variable-used.new.ctx c.args.variable c.in-Some-var_type.ty c.in-Some.block c.use_variable-used.ensures.is_use)
-    (used-filled c.use_variable-used.result c.args.self.now.func.now c.args.self.now.ctx.now c.use_variable-used.new.func c.use_variable-used.new.ctx c.args.variable c.in-Some-var_type.ty c.in-Some.block c.use_variable-used.ensures.is_use)
+returns-clause-call g c =
+    made c.args.self.now _ c.use_variable-used.result (record { func = refl; ctx = refl; region = refl }) refl refl c.if-self.false c.use_variable-used.ensures.never_failed c.is_err-self.ensures.value
+    c.use_variable-used.ensures.looks_once (used-types c.use_variable-used.result c.args.self.now.func.now c.args.self.now.ctx.now.parts c.use_variable-used.new.func c.use_variable-used.new.ctx c.args.variable c.in-Some-var_type.ty c.in-Some.block c.use_variable-used.ensures.is_use)
+    (used-filled c.use_variable-used.result c.args.self.now.func.now c.args.self.now.ctx.now.parts c.use_variable-used.new.func c.use_variable-used.new.ctx c.args.variable c.in-Some-var_type.ty c.in-Some.block c.use_variable-used.ensures.is_use)
 
 pub returns-clause-status : goal.returns-clause-status
-returns-clause-status c = λ calls agrees.
-    subst (λ (o : Option ℕ). IfSome o (λ block. OnOk c.use_variable-used.result (SetsStatus c.args.self.now.ctx.now c.use_variable-used.new.ctx block (begun (status_of c.args.self.now.ctx.now block))))) (sym c.in-Some.is)
-    (used-statuses calls c.args.self.now.func.now c.use_variable-used.new.func c.args.self.now.ctx.now c.use_variable-used.new.ctx c.args.self.now.position c.args.variable c.in-Some-var_type.ty c.in-Some.block _ agrees c.use_variable-used.ensures.is_use)
+returns-clause-status g c = λ calls agrees.
+    subst (λ (o : Option ℕ). IfSome o (λ block. OnOk c.use_variable-used.result (SetsStatus c.args.self.now.ctx.now.parts c.use_variable-used.new.ctx block (begun (status_of c.args.self.now.ctx.now.parts block))))) (sym c.in-Some.is)
+    (used-statuses calls c.args.self.now.func.now c.use_variable-used.new.func c.args.self.now.ctx.now.parts c.use_variable-used.new.ctx c.args.self.now.position c.args.variable c.in-Some-var_type.ty c.in-Some.block _ agrees c.use_variable-used.ensures.is_use)
 
 pub returns-clause-remembers : goal.returns-clause-remembers
-returns-clause-remembers c = λ x b.
-    remembers_used c.use_variable-used.result x b c.args.self.now.func.now c.use_variable-used.new.func c.args.self.now.ctx.now c.use_variable-used.new.ctx c.args.variable c.in-Some-var_type.ty c.in-Some.block c.use_variable-used.ensures.is_use
+returns-clause-remembers g c = λ x b.
+    remembers_used c.use_variable-used.result x b c.args.self.now.func.now c.use_variable-used.new.func c.args.self.now.ctx.now.parts c.use_variable-used.new.ctx c.args.variable c.in-Some-var_type.ty c.in-Some.block c.use_variable-used.ensures.is_use
 
 pub returns-clause-has_record : goal.returns-clause-has_record
-returns-clause-has_record c =
-    has_record_used c.use_variable-used.result c.args.self.now.func.now c.use_variable-used.new.func c.args.self.now.ctx.now c.use_variable-used.new.ctx c.args.variable c.in-Some-var_type.ty c.in-Some.block c.args.self.now.position c.in-Some.is c.use_variable-used.ensures.is_use
+returns-clause-has_record g c =
+    has_record_used c.use_variable-used.result c.args.self.now.func.now c.use_variable-used.new.func c.args.self.now.ctx.now.parts c.use_variable-used.new.ctx c.args.variable c.in-Some-var_type.ty c.in-Some.block c.args.self.now.position c.in-Some.is c.use_variable-used.ensures.is_use
 
 pub returns-clause-grows : goal.returns-clause-grows
-returns-clause-grows c = used_grows c.use_variable-used.result c.args.self.now.func.now c.args.self.now.ctx.now c.use_variable-used.new.func c.use_variable-used.new.ctx c.args.variable c.in-Some-var_type.ty c.in-Some.block c.use_variable-used.ensures.is_use
+returns-clause-grows g c = used_grows c.use_variable-used.result c.args.self.now.func.now c.args.self.now.ctx.now.parts c.use_variable-used.new.func c.use_variable-used.new.ctx c.args.variable c.in-Some-var_type.ty c.in-Some.block c.use_variable-used.ensures.is_use
 
 pub returns-clause-current : goal.returns-clause-current
-returns-clause-current c =
-    used_current c.use_variable-used.result c.args.self.now.position c.args.self.now.func.now c.args.self.now.ctx.now c.use_variable-used.new.func c.use_variable-used.new.ctx c.args.variable c.in-Some-var_type.ty c.in-Some.block c.use_variable-used.ensures.is_use c.requires.current
+returns-clause-current g c =
+    used_current c.use_variable-used.result c.args.self.now.position c.args.self.now.func.now c.args.self.now.ctx.now.parts c.use_variable-used.new.func c.use_variable-used.new.ctx c.args.variable c.in-Some-var_type.ty c.in-Some.block c.use_variable-used.ensures.is_use c.requires.current
 
 pub use_variable-used-requires-clause-named : goal.use_variable-used-requires-clause-named
-use_variable-used-requires-clause-named c = opened _ _ _ c.args.self.now.named
+use_variable-used-requires-clause-named g c = opened _ _ _ c.args.self.now.named
 
 pub returns-then-self-clause-parameters : goal.returns-then-self-clause-parameters
-returns-then-self-clause-parameters c = λ signature calls stands. sealed_parameters calls _ _ stands.carries
+returns-then-self-clause-parameters g c = λ signature calls stands. sealed_parameters calls _ _ stands.carries
 
 pub returns-clause-parameters : goal.returns-clause-parameters
-returns-clause-parameters c = λ signature calls stands. sealed_parameters calls _ _ stands.carries
+returns-clause-parameters g c = λ signature calls stands. sealed_parameters calls _ _ stands.carries
 
 pub returns-clause-typed : goal.returns-clause-typed
-returns-clause-typed c =
-    kept_typed c.use_variable-used.result c.args.self.now.func.now c.use_variable-used.new.func c.args.self.now.ctx.now c.use_variable-used.new.ctx _ c.args.variable c.in-Some-var_type.ty c.in-Some.block
+returns-clause-typed g c =
+    kept_typed c.use_variable-used.result c.args.self.now.func.now c.use_variable-used.new.func c.args.self.now.ctx.now.parts c.use_variable-used.new.ctx _ c.args.variable c.in-Some-var_type.ty c.in-Some.block
     c.if-self.false (sym c.var_type.ensures ∙ c.in-Some-var_type.is) c.use_variable-used.ensures.is_use c.args.self.now.named
 
 pub returns-clause-seals : goal.returns-clause-seals
-returns-clause-seals c = used-seals c.use_variable-used.result c.args.self.now.func.now c.args.self.now.ctx.now c.use_variable-used.new.func c.use_variable-used.new.ctx c.args.variable c.in-Some-var_type.ty c.in-Some.block c.use_variable-used.ensures.is_use
+returns-clause-seals g c = used-seals c.use_variable-used.result c.args.self.now.func.now c.args.self.now.ctx.now.parts c.use_variable-used.new.func c.use_variable-used.new.ctx c.args.variable c.in-Some-var_type.ty c.in-Some.block c.use_variable-used.ensures.is_use
 
 pub invariant_of-self : goal.invariant_of-self
-invariant_of-self c =
+invariant_of-self g c =
     let done = c.use_variable-used.ensures in
     record {
       named = kept_by c.use_variable-used.result _ _ _ _ _ _ c.if-self.false c.is_err-self.ensures.value (λ names. done.names)
-          (order-used c.use_variable-used.result c.args.self.now.func.now c.use_variable-used.new.func c.args.self.now.ctx.now c.use_variable-used.new.ctx c.args.variable c.in-Some-var_type.ty c.in-Some.block
+          (order-used c.use_variable-used.result c.args.self.now.func.now c.use_variable-used.new.func c.args.self.now.ctx.now.parts c.use_variable-used.new.ctx c.args.variable c.in-Some-var_type.ty c.in-Some.block
           (current_exists c.args.self.now c.requires.current c.in-Some.block c.in-Some.is) (sym c.var_type.ensures ∙ c.in-Some-var_type.is) done.is_use c.law_consistent-2.ensures done.touches)
-          (fits_used c.use_variable-used.result c.args.self.now.func.now c.use_variable-used.new.func c.args.self.now.ctx.now c.use_variable-used.new.ctx c.args.variable c.in-Some-var_type.ty c.in-Some.block
+          (fits_used c.use_variable-used.result c.args.self.now.func.now c.use_variable-used.new.func c.args.self.now.ctx.now.parts c.use_variable-used.new.ctx c.args.variable c.in-Some-var_type.ty c.in-Some.block
           done.is_use done.variables)
           c.args.self.now.named;
     }
 
 pub returns-then-self-clause-pools : goal.returns-then-self-clause-pools
-returns-then-self-clause-pools c = λ ty is. inl refl
+returns-then-self-clause-pools g c = λ ty is. inl refl
 
 pub returns-clause-pools : goal.returns-clause-pools
-returns-clause-pools c = λ ty is.
+returns-clause-pools g c = λ ty is.
     typed_so (λ (t : «Type»). MayPool t c.args.self.now.func.now.tables c.use_variable-used.new.func.tables) _ c.in-Some-var_type.ty ty
     (sym c.var_type.ensures ∙ c.in-Some-var_type.is) c.use_variable-used.ensures.pools is
 
 pub returns-clause-full : goal.returns-clause-full
-returns-clause-full c = λ ty is full.
+returns-clause-full g c = λ ty is full.
     typed_so (λ (t : «Type»). UseIsFull t c.use_variable-used.new.func) _ c.in-Some-var_type.ty ty
     (sym c.var_type.ensures ∙ c.in-Some-var_type.is) (c.use_variable-used.ensures.full full) is

@@ -10,7 +10,7 @@ use Rattle.clif_builder.proofs.Named.{same_builder}
 use Rattle.clif_builder.proofs.instructions.FunctionBuilderInstBuilderBase.build_value.Goals as goal
 
 pub bounds-inst_results-0 : goal.bounds-inst_results-0
-bounds-inst_results-0 c =
+bounds-inst_results-0 g c =
     let results : c.inst_results.result.now ≡ length c.args.self.now.func.now.values ∷ [] =
     c.inst_results.ensures.exact
     ∙ current_results c.args.self.now c.build.new.self c.args.shape c.args.ctrl_type (result_type_of c.args.shape c.args.ctrl_type) c.in_ok-inst.inst c.requires.current c.in_ok-inst.ensures.built.appends (one_type c.args.self.now.func.now.tables c.args.shape c.args.ctrl_type c.requires.value) in
@@ -18,7 +18,7 @@ bounds-inst_results-0 c =
     omega (arith, one)
 
 pub returns : goal.returns
-returns c =
+returns g c =
     let value : ℕ = c.index-inst_results-0.result in
     let results : c.inst_results.result.now ≡ length c.args.self.now.func.now.values ∷ [] =
     c.inst_results.ensures.exact
@@ -32,17 +32,17 @@ returns c =
     let here : value < length c.build.new.self.func.now.values = omega (arith, is, first, exist) in
     record {
       built =
-          subst (λ (b : FunctionBuilder). BuildsValue c.args.self.now b c.args.shape c.args.ctrl_type (Ok value)) (sym (same_builder c.build.new.self _))
+          subst (λ (b : FunctionBuilder _). BuildsValue c.args.self.now b c.args.shape c.args.ctrl_type (Ok value)) (sym (same_builder c.build.new.self _))
           (builds_value c.args.self.now c.build.new.self c.args.shape c.args.ctrl_type c.in_ok-inst.inst value
           c.requires.current c.in_ok-inst.ensures.built c.requires.value.no_branch (one_type c.args.self.now.func.now.tables c.args.shape c.args.ctrl_type c.requires.value) c.requires.value.goes_on is here);
     }
 
 pub returns-in_err-inst : goal.returns-in_err-inst
-returns-in_err-inst c =
+returns-in_err-inst g c =
     let p = err_from_is_err_and c.from_residual.result c.from_residual.ensures.1 in
     record {
       built =
-          subst (λ (b : FunctionBuilder). BuildsValue c.args.self.now b c.args.shape c.args.ctrl_type c.from_residual.result) (sym (same_builder c.build.new.self _))
+          subst (λ (b : FunctionBuilder _). BuildsValue c.args.self.now b c.args.shape c.args.ctrl_type c.from_residual.result) (sym (same_builder c.build.new.self _))
           (subst (BuildsValue c.args.self.now c.build.new.self c.args.shape c.args.ctrl_type) (sym (p.1 ∙ ap Err p.2))
           (builds_value_refused c.args.self.now c.build.new.self c.args.shape c.args.ctrl_type c.in_err-inst.field-0.0
           c.requires.value.no_branch (one_type c.args.self.now.func.now.tables c.args.shape c.args.ctrl_type c.requires.value) c.in_err-inst.ensures.built));

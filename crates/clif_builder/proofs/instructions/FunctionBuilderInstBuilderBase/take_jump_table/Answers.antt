@@ -6,18 +6,18 @@ use Rattle.clif_builder.proofs.Tabling.{served_aside, table_taken, take_refused}
 use Rattle.clif_builder.proofs.instructions.FunctionBuilderInstBuilderBase.take_jump_table.Goals as goal
 
 pub returns-then-self : goal.returns-then-self
-returns-then-self c = record { taken = take_refused jump_tables c.args.table c.args.self.now c.if-self.true }
+returns-then-self g c = record { taken = take_refused jump_tables c.args.table c.args.self.now c.if-self.true }
 
 pub returns : goal.returns
-returns c = record {
+returns g c = record {
   taken =
-      table_taken jump_tables c.args.table c.in-Some.edges c.args.self.now _ (served_aside c.args.self.now.func.now c.args.table) (λ named. named) c.if-self.false (record { func = refl; ctx = refl }) refl refl refl c.if-self.false
+      table_taken jump_tables c.args.table c.in-Some.edges c.args.self.now _ (served_aside c.args.self.now.func.now c.args.table) (λ named. named) c.if-self.false (record { func = refl; ctx = refl; region = refl }) refl refl refl c.if-self.false
       c.law_consistent.ensures (sym c.take_jump_table.ensures.taken ∙ c.in-Some.is) c.take_jump_table.ensures.served;
 }
 
 pub invariant_of-self : goal.invariant_of-self
-invariant_of-self c = record {
+invariant_of-self g c = record {
   named =
-      tables_kept {A = Unit {0}} _ (Ok tt) c.args.self.now.func.now _ c.args.self.now.ctx.now _ _ (served_aside c.args.self.now.func.now c.args.table).constants c.if-self.false
+      tables_kept {A = Unit {0}} _ (Ok tt) c.args.self.now.func.now _ c.args.self.now.ctx.now.parts _ _ (served_aside c.args.self.now.func.now c.args.table).constants c.if-self.false
       c.if-self.false c.take_jump_table.ensures.served tt c.args.self.now.named;
 }

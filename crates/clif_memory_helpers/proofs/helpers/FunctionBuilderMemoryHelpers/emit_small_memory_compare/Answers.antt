@@ -13,7 +13,7 @@ use Rattle.clif_memory_helpers.proofs.LibraryCalls.{const_is}
 use Rattle.clif_memory_helpers.proofs.helpers.FunctionBuilderMemoryHelpers.emit_small_memory_compare.Goals as goal
 
 pub returns-in-Constant : goal.returns-in-Constant
-returns-in-Constant c =
+returns-in-Constant g c =
     let shape : CompareShape = record {
       condition = c.args.int_cc;
       size = c.args.size;
@@ -30,7 +30,7 @@ returns-in-Constant c =
     }
 
 pub returns-in-Inline : goal.returns-in-Inline
-returns-in-Inline c =
+returns-in-Inline g c =
     let shape : CompareShape = record {
       condition = c.args.int_cc;
       size = c.args.size;
@@ -47,7 +47,7 @@ returns-in-Inline c =
     }
 
 pub returns-in-LibraryCall : goal.returns-in-LibraryCall
-returns-in-LibraryCall c =
+returns-in-LibraryCall g c =
     let shape : CompareShape = record {
       condition = c.args.int_cc;
       size = c.args.size;

@@ -29,24 +29,24 @@ said_of : (P : CaseMap → «Type» → Type 0) (inside cases : CaseMap) (read h
 said_of P inside cases read held view same said = subst (λ (m : CaseMap). P m held) view (subst (P inside) same said)
 
 pub returns-then-has_failed : goal.returns-then-has_failed
-returns-then-has_failed c = was_failed c.args.self c.args.val c.args.otherwise c.args.bx.now (sym c.has_failed.ensures ∙ c.if-has_failed.true)
+returns-then-has_failed g c = was_failed c.args.self c.args.val c.args.otherwise c.args.bx.now (sym c.has_failed.ensures ∙ c.if-has_failed.true)
 
 pub returns-in-Err-KeyTooWide : goal.returns-in-Err-KeyTooWide
-returns-in-Err-KeyTooWide c =
+returns-in-Err-KeyTooWide g c =
     let read = type_read c.args.bx.now.func.now c.func-2.result.now c.args.val c.value_type-ty.result c.value_type-ty.ensures c.func-2.ensures in
     rw (c.in-Err-KeyTooWide.field-0-is)
     (key_too_wide c.args.self c.args.val c.args.otherwise c.args.bx.now c.in-Err-KeyTooWide.field-0 _ c.value_type-ty.result c.in-Err-KeyTooWide.max (sym c.has_failed.ensures ∙ c.if-has_failed.false) c.in-Err-KeyTooWide.field-0-is
     (refuses_of c.self.inside.cases c.args.self c.value_type-ty.result _ c.in-Err-KeyTooWide.field-0 c.self.view_is read c.in-Err-KeyTooWide.ensures.err c.in-Err-KeyTooWide.ensures.too_wide) read)
 
 pub returns-in-Err-TableTooLong : goal.returns-in-Err-TableTooLong
-returns-in-Err-TableTooLong c =
+returns-in-Err-TableTooLong g c =
     let read = type_read c.args.bx.now.func.now c.func-2.result.now c.args.val c.value_type-ty.result c.value_type-ty.ensures c.func-2.ensures in
     table_too_long c.args.self c.args.val c.args.otherwise c.args.bx.now (sym c.has_failed.ensures ∙ c.if-has_failed.false)
     (said_of (λ (m : CaseMap) (t : «Type»). IsRefusal m t too_long) c.self.inside.cases c.args.self c.value_type-ty.result _ c.self.view_is read
     (subst (IsRefusal c.self.inside.cases c.value_type-ty.result) c.in-Err-TableTooLong.field-0-is c.in-Err-TableTooLong.ensures.err))
 
 pub returns-in-Err-Build : goal.returns-in-Err-Build
-returns-in-Err-Build c =
+returns-in-Err-Build g c =
     let read = type_read c.args.bx.now.func.now c.func-2.result.now c.args.val c.value_type-ty.result c.value_type-ty.ensures c.func-2.ensures in
     failed_by c.args.self c.args.val c.args.otherwise c.args.bx.now c.refuse.new.self c.refuse.result
     (λ max sound. memory_not_wide c.args.self _ c.in-Err-Build.field-0 c.in-Err-Build.field-0-0 c.in-Err-Build.field-0-is
@@ -54,10 +54,10 @@ returns-in-Err-Build c =
     (steps_err c.args.bx.now c.refuse.new.self c.refuse.result (builds_steps c.args.bx.now c.refuse.new.self (shapes.unary_imm (pos 0)) type.Invalid _ (c.refuse.ensures.refused (shapes.unary_imm (pos 0)) type.Invalid)))
 
 pub search_tree-requires : goal.search_tree-requires
-search_tree-requires c = subst AreSeparate (sym c.as_slice.ensures.value) (separate (finite.entries c.self.inside.cases) c.in-Ok.ranges.items c.in-Ok.ensures.ok.ranges_of)
+search_tree-requires g c = subst AreSeparate (sym c.as_slice.ensures.value) (separate (finite.entries c.self.inside.cases) c.in-Ok.ranges.items c.in-Ok.ensures.ok.ranges_of)
 
 pub returns-in_default : goal.returns-in_default
-returns-in_default c =
+returns-in_default g c =
     let read = type_read c.args.bx.now.func.now c.func-2.result.now c.args.val c.value_type-ty.result c.value_type-ty.ensures c.func-2.ensures in
     failed_by c.args.self c.args.val c.args.otherwise c.args.bx.now c.refuse-in_default.new.self c.refuse-in_default.result
     (λ max sound. none_too_wide c.args.self _ (said_of FitType c.self.inside.cases c.args.self c.value_type-ty.result _ c.self.view_is read c.in-Ok.ensures.ok.fit) max)
@@ -65,7 +65,7 @@ returns-in_default c =
     (builds_steps c.args.bx.now c.refuse-in_default.new.self (shapes.unary_imm (pos 0)) type.Invalid _ (c.refuse-in_default.ensures.refused (shapes.unary_imm (pos 0)) type.Invalid)))
 
 pub emit_nodes-requires-clause-leads : goal.emit_nodes-requires-clause-leads
-emit_nodes-requires-clause-leads c =
+emit_nodes-requires-clause-leads g c =
     let entries : List (ℕ × ℕ) = finite.entries c.args.self in
     let ranges : List CaseRange = c.as_slice.result.now in
     let are : AreRangesOf entries ranges =
@@ -75,12 +75,12 @@ emit_nodes-requires-clause-leads c =
     (all_cases entries ranges are c.in-Ok-search_tree.nodes.items c.in-Ok-search_tree.ensures.tests.tests))
 
 pub emit_nodes-requires-clause-filled : goal.emit_nodes-requires-clause-filled
-emit_nodes-requires-clause-filled c =
+emit_nodes-requires-clause-filled g c =
     subst (λ (nodes : List Node). AllByRecursion (λ node. HasItsBlock node.test) nodes) (sym c.as_slice-2.ensures.value)
     (all_blocks c.as_slice.result.now c.in-Ok-search_tree.nodes.items c.in-Ok-search_tree.ensures.tests.tests)
 
 pub returns-in-Ok-emit_nodes : goal.returns-in-Ok-emit_nodes
-returns-in-Ok-emit_nodes c =
+returns-in-Ok-emit_nodes g c =
     let ranges : List CaseRange = c.as_slice.result.now in
     let nodes : List Node = c.as_slice-2.result.now in
     let same : c.in-Ok-search_tree.nodes.items ≡ nodes = sym c.as_slice-2.ensures.value in
@@ -97,7 +97,7 @@ returns-in-Ok-emit_nodes c =
     (subst (λ (t : «Type»). MakesNodes (record { ty = t; val = c.args.val; otherwise = c.args.otherwise }) nodes c.args.bx.now c.emit_nodes.new.bx done) of_type c.in-Ok-emit_nodes.ensures.made)
 
 pub returns : goal.returns
-returns c =
+returns g c =
     let read = type_read c.args.bx.now.func.now c.func-2.result.now c.args.val c.value_type-ty.result c.value_type-ty.ensures c.func-2.ensures in
     failed_by c.args.self c.args.val c.args.otherwise c.args.bx.now c.emit_nodes.new.bx c.in-Err.error
     (λ max sound. none_too_wide c.args.self _ (said_of FitType c.self.inside.cases c.args.self c.value_type-ty.result _ c.self.view_is read c.in-Ok.ensures.ok.fit) max)

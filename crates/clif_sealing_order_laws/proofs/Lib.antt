@@ -1,0 +1,8 @@
+pub mod Lists
+pub mod RenamedLedgers
+pub mod RenamedAnswers
+pub mod RenamedConditions
+pub mod RenamedCalls
+pub mod AcceptedOrders
+pub mod Verdicts
+pub mod OrderRow

@@ -1,0 +1,302 @@
+-- The conditions on calls that don't seal are the same in the ledger without sealing, if the order of sealing is allowed.
+use Rattle.std.proofs.Common.{◌≡◌, ℕ, zero, suc, Bool, true, false, cond, not, List, [], ◌∷◌, map, refl, sym, ◌∙◌, ap, ap₂, Option, Some, None}
+use Rattle.std.specs.Prelude.{◌&&◌, ◌||◌, find, if◌then◌else◌, is_some, option_and_then, option_map, slice_get}
+use Rattle.std.specs.List.{list_all, list_any}
+use Rattle.std.proofs.lemmas.Bool.{and_parts}
+use Rattle.clif_types.specs.declared.types.«Type».{«Type»}
+use Rattle.clif_instructions.specs.Instruction.{ASignatureRef}
+use Rattle.clif_meaning.specs.Acceptance.{allows, blames_variable, can_assign, can_lead, can_leave, can_operate, fits_stack_map, has_argument, has_entry, has_item, is_open, is_unfinished, may_give, may_need, refusal_of, tables_differ, unfinished}
+use Rattle.clif_meaning.specs.Instruction.{Argument, Known, CallResult, CallPayload, Edge, operation_entries}
+use Rattle.clif_meaning.specs.Ledger.{Answered, BlockState, Ledger, block_state, edge_named, has_block, has_instruction, has_predecessors, has_value, is_empty, is_filled, is_inserted, is_instruction_answer, is_pristine, is_sealed, leads_to, or_invalid, state_has, type_of, value_answer_type, variable_type, begins_with}
+use Rattle.clif_meaning.specs.Name.{Name, same_name}
+use Rattle.clif_meaning.specs.Request.{Request, CreateBlock, SwitchToBlock, SealBlock, SealAllBlocks, InsertBlockAfter, SetColdBlock, EnsureInsertedBlock, AppendBlockParams, AppendFunctionParams, DeclareVar, DefVar, UseVar, MakeEntry, MakeEdge, MakeJumpTable, MakeExceptionTable, Annotate, NeedStackMap, Build, ChangeJumpDestination, Finalize, GivenEntry, ServedBy, TriedBy, Imported, TableItem, TagTo, DefaultTo, InContext, StackMapNeed, OfVariable, OfValue}
+use Rattle.clif_renaming.specs.Renaming.{KeepsApart, renamed_argument, renamed_edge}
+use Rattle.clif_renaming.specs.Sealing.{is_sealing, renamed_item, renamed_need, renamed_request}
+use Rattle.clif_renaming.proofs.RenamedNames.{same_renamed}
+use Rattle.clif_renaming.proofs.TrackedNames.{list_any_renamed}
+use Rattle.clif_sealing_order_laws.specs.Order.{is_left_anyhow, is_sealed_if_begun, is_unsealed_target, spares_order}
+use Rattle.clif_sealing_order_laws.proofs.Lists.{all_mapped}
+use Rattle.clif_sealing_order_laws.proofs.RenamedAnswers.{AnswersGoAlong, answer_in, edge_named_along, instruction_along, type_along}
+use Rattle.clif_sealing_order_laws.proofs.RenamedLedgers.{has_mapped, state_found, unsealed_ledger, unsealed_state}
+
+-- there is no current block, or it can be left, as if it were sealed
+abbrev could_leave : Ledger → Option Name → Bool
+could_leave ledger None = true
+could_leave ledger (Some block) =
+    (not (is_empty ledger.layout) && not (begins_with ledger.layout block) && has_block ledger block && not (has_predecessors ledger block))
+    || is_pristine ledger block || is_filled ledger block
+
+-- the condition of each kind of call, where nothing is sealed: as if the current block were
+abbrev pub allows_unsealed : Ledger → Request → Bool
+allows_unsealed ledger (SwitchToBlock block) = has_block ledger block && not (is_filled ledger block) && could_leave ledger ledger.current
+allows_unsealed ledger request = allows ledger request
+
+-- something was made in the block, and it isn't filled
+abbrev pub is_unended : BlockState → Bool
+is_unended state = not state.is_pristine && not state.is_filled
+
+-- and what `finalize` is refused for there
+abbrev pub refuses_unsealed : Ledger → Request → Bool
+refuses_unsealed ledger Finalize = list_any is_unended ledger.blocks
+refuses_unsealed ledger _ = false
+
+-- a block can be left if it is sealed, and could be if it were: the same, unless sealing decides
+leave_same : (bare entry sealed led there pristine filled : Bool) → (sealed ≡ true → there ≡ true)
+    → (((not bare && not entry && sealed && not led) || pristine || filled) || (entry || led || not there)) ≡ true
+    → ((not bare && not entry && there && not led) || pristine || filled) ≡ ((not bare && not entry && sealed && not led) || pristine || filled)
+leave_same true entry sealed led there pristine filled is spared = refl
+leave_same false true sealed led there pristine filled is spared = refl
+leave_same false false true led true pristine filled is spared = refl
+leave_same false false true led false pristine filled is spared = let none : false ≡ true = is refl in let no_way : ⊥ = cc in absurd no_way
+leave_same false false false true true pristine filled is spared = refl
+leave_same false false false true false pristine filled is spared = refl
+leave_same false false false false true true filled is spared = refl
+leave_same false false false false true false true is spared = refl
+leave_same false false false false true false false is spared = let no_way : ⊥ = cc in absurd no_way
+leave_same false false false false false pristine filled is spared = refl
+
+some_mapped : {X Y : Type 0} (f : X → Y) (o : Option X) → is_some (option_map f o) ≡ is_some o
+some_mapped f None = refl
+some_mapped f (Some x) = refl
+
+empty_mapped : {X Y : Type 0} (f : X → Y) (xs : List X) → is_empty (map f xs) ≡ is_empty xs
+empty_mapped f [] = refl
+empty_mapped f (x ∷ xs) = refl
+
+given_mapped : {X : Type 0} (f : X → X) (tables : List (Option X)) (k : ℕ)
+    → is_some (option_and_then (λ x. x) (slice_get (map (option_map f) tables) k)) ≡ is_some (option_and_then (λ x. x) (slice_get tables k))
+given_mapped f [] k = refl
+given_mapped f (None ∷ tables) zero = refl
+given_mapped f (Some x ∷ tables) zero = refl
+given_mapped f (table ∷ tables) (suc k) = given_mapped f tables k
+
+module _ (rename : Name → Name) (apart : KeepsApart rename) (ledger : Ledger) (answers : List (List Answered)) (along : AnswersGoAlong rename ledger.answers answers) where
+  abbrev other : Ledger
+  other = unsealed_ledger rename ledger answers
+
+  -- STATES ----------------------------------------------------------------------------------------------------------------
+
+  -- a test of the state of a block
+  test_along : (f g : BlockState → Bool) → ((state : BlockState) → g (unsealed_state rename state) ≡ f state) → (block : Name)
+      → state_has g (block_state other (rename block)) ≡ state_has f (block_state ledger block)
+  test_along f g each block = ap (state_has g) (state_found rename apart block ledger.blocks) ∙ has_mapped (unsealed_state rename) f g each (block_state ledger block)
+
+  has_along : (block : Name) → has_block other (rename block) ≡ has_block ledger block
+  has_along block = ap (λ (o : Option BlockState). is_some o) (state_found rename apart block ledger.blocks) ∙ some_mapped (unsealed_state rename) (block_state ledger block)
+
+  filled_along : (block : Name) → is_filled other (rename block) ≡ is_filled ledger block
+  filled_along block = test_along (λ (state : BlockState). state.is_filled) (λ (state : BlockState). state.is_filled) (λ state. refl) block
+
+  pristine_along : (block : Name) → is_pristine other (rename block) ≡ is_pristine ledger block
+  pristine_along block = test_along (λ (state : BlockState). state.is_pristine) (λ (state : BlockState). state.is_pristine) (λ state. refl) block
+
+  predecessors_along : (block : Name) → has_predecessors other (rename block) ≡ has_predecessors ledger block
+  predecessors_along block =
+      test_along (λ (state : BlockState). not (is_empty state.predecessors)) (λ (state : BlockState). not (is_empty state.predecessors))
+      (λ state. ap not (empty_mapped rename state.predecessors)) block
+
+  leads_along : (branch block : Name) → leads_to other (rename branch) (rename block) ≡ leads_to ledger branch block
+  leads_along branch block =
+      test_along (λ (state : BlockState). list_any (same_name branch) state.predecessors) (λ (state : BlockState). list_any (same_name (rename branch)) state.predecessors)
+      (λ state. list_any_renamed rename apart branch state.predecessors) block
+
+  -- no block is sealed
+  none_sealed : (block : Name) → is_sealed other (rename block) ≡ false
+  none_sealed block = test_along (λ (state : BlockState). false) (λ (state : BlockState). state.is_sealed) (λ state. refl) block ∙ by (block_state ledger block)
+    where
+      by : (o : Option BlockState) → state_has (λ state. false) o ≡ false
+      by None = refl
+      by (Some state) = refl
+
+  inserted_along : (block : Name) → is_inserted other (rename block) ≡ is_inserted ledger block
+  inserted_along block = list_any_renamed rename apart block ledger.layout
+
+  open_along : is_open other other.current ≡ is_open ledger ledger.current
+  open_along = by ledger.current
+    where
+      by : (o : Option Name) → is_open other (option_map rename o) ≡ is_open ledger o
+      by None = refl
+      by (Some block) = ap not (filled_along block)
+
+  -- VALUES AND TABLES -----------------------------------------------------------------------------------------------------
+
+  typed_along : (x : Name) → type_of other (rename x) ≡ type_of ledger x
+  typed_along x = ap value_answer_type (along x) ∙ type_along rename (answer_in ledger.answers x)
+
+  value_along : (x : Name) → has_value other (rename x) ≡ has_value ledger x
+  value_along x = ap (λ (o : Option «Type»). is_some o) (typed_along x)
+
+  edge_along : (x : Name) → is_some (edge_named other (rename x)) ≡ is_some (edge_named ledger x)
+  edge_along x = ap (λ (o : Option (Edge Name Name)). is_some o) (edge_named_along rename ledger answers along x) ∙ some_mapped (renamed_edge rename) (edge_named ledger x)
+
+  built_along : (x : Name) → has_instruction other (rename x) ≡ has_instruction ledger x
+  built_along x = ap is_instruction_answer (along x) ∙ instruction_along rename (answer_in ledger.answers x)
+
+  argument_along : (argument : Argument Name) → has_argument other (renamed_argument rename argument) ≡ has_argument ledger argument
+  argument_along (Known name) = value_along name
+  argument_along (CallResult index) = refl
+  argument_along (CallPayload index) = refl
+
+  item_along : (item : TableItem) → has_item other (renamed_item rename item) ≡ has_item ledger item
+  item_along (TagTo tag edge) = edge_along edge
+  item_along (DefaultTo edge) = edge_along edge
+  item_along (InContext value) = value_along value
+
+  values_along : (names : List Name) → list_all (has_value other) (map rename names) ≡ list_all (has_value ledger) names
+  values_along names = all_mapped rename (has_value ledger) (has_value other) value_along names
+
+  arguments_along : (arguments : List (Argument Name)) → list_all (has_argument other) (map (renamed_argument rename) arguments) ≡ list_all (has_argument ledger) arguments
+  arguments_along arguments = all_mapped (renamed_argument rename) (has_argument ledger) (has_argument other) argument_along arguments
+
+  give_along : (entry : GivenEntry) → may_give other entry ≡ may_give ledger entry
+  give_along (ServedBy table) = given_mapped (map (renamed_edge rename)) ledger.jump_tables table
+  give_along (TriedBy table) = given_mapped _ ledger.exception_tables table
+  give_along (Imported entry) = refl
+
+  all_give_along : (entries : List GivenEntry) → list_all (may_give other) entries ≡ list_all (may_give ledger) entries
+  all_give_along [] = refl
+  all_give_along (entry ∷ entries) = ap₂ (λ (a b : Bool). a && b) (give_along entry) (all_give_along entries)
+
+  need_along : (need : StackMapNeed) → may_need other (renamed_need rename need) ≡ may_need ledger need
+  need_along (OfVariable variable) = refl
+  need_along (OfValue value) = ap₂ (λ (has : Bool) (ty : Option «Type»). has && fits_stack_map (or_invalid ty)) (value_along value) (typed_along value)
+
+  -- where what they lead to isn't sealed, edges can lead
+  lead_along : (edge : Edge Name Name) → is_unsealed_target ledger edge ≡ true → can_lead other (renamed_edge rename edge) ≡ can_lead ledger edge
+  lead_along edge unsealed =
+      ap₂ (λ (a b : Bool). a && b) (ap₂ (λ (a b : Bool). a && b) (has_along edge.target) (ap not (none_sealed edge.target) ∙ sym unsealed)) (arguments_along edge.arguments)
+
+  leads_all_along : (edges : List (Edge Name Name)) → list_all (is_unsealed_target ledger) edges ≡ true
+      → list_all (can_lead other) (map (renamed_edge rename) edges) ≡ list_all (can_lead ledger) edges
+  leads_all_along [] unsealed = refl
+  leads_all_along (edge ∷ edges) unsealed =
+      let both = and_parts (is_unsealed_target ledger edge) (list_all (is_unsealed_target ledger) edges) unsealed in
+      ap₂ (λ (a b : Bool). a && b) (lead_along edge both.0) (leads_all_along edges both.1)
+
+  -- the current block could be left where it can be
+  leave_along : (o : Option Name) → (can_leave ledger o || is_left_anyhow ledger o) ≡ true → could_leave other (option_map rename o) ≡ can_leave ledger o
+  leave_along None spared = refl
+  leave_along (Some block) spared =
+      ap₂ (λ (a b : Bool). a || b)
+      (ap₂ (λ (a b : Bool). a || b)
+      (ap₂ (λ (a b : Bool). a && b)
+      (ap₂ (λ (a b : Bool). a && b) (ap₂ (λ (a b : Bool). not a && not b) (empty_mapped rename ledger.layout) (begins_along ledger.layout)) (has_along block))
+      (ap not (predecessors_along block)))
+      (pristine_along block))
+      (filled_along block)
+      ∙ leave_same (is_empty ledger.layout) (begins_with ledger.layout block) (is_sealed ledger block) (has_predecessors ledger block) (has_block ledger block)
+      (is_pristine ledger block) (is_filled ledger block) (there (block_state ledger block)) spared
+    where
+      begins_along : (layout : List Name) → begins_with (map rename layout) (rename block) ≡ begins_with layout block
+      begins_along [] = refl
+      begins_along (entry ∷ layout) = same_renamed rename apart entry block
+
+      there : (o : Option BlockState) → state_has (λ state. state.is_sealed) o ≡ true → is_some o ≡ true
+      there None is = is
+      there (Some state) is = refl
+
+  -- CONDITIONS ------------------------------------------------------------------------------------------------------------
+
+  pub allowed_along : (request : Request) → is_sealing request ≡ false → spares_order ledger request ≡ true
+      → allows_unsealed other (renamed_request rename request) ≡ allows ledger request
+  allowed_along CreateBlock stays ordered = refl
+  allowed_along (SwitchToBlock block) stays ordered =
+      ap₂ (λ (a b : Bool). a && b) (ap₂ (λ (has filled : Bool). has && not filled) (has_along block) (filled_along block)) (leave_along ledger.current ordered)
+  allowed_along (SealBlock block) stays ordered = let none : ⊥ = cc in absurd none
+  allowed_along SealAllBlocks stays ordered = let none : ⊥ = cc in absurd none
+  allowed_along (InsertBlockAfter block after) stays ordered =
+      ap₂ (λ (a b : Bool). a && b) (ap₂ (λ (a b : Bool). a && not b) (has_along block) (inserted_along block)) (inserted_along after)
+  allowed_along (SetColdBlock block) stays ordered = has_along block
+  allowed_along EnsureInsertedBlock stays ordered = open_along
+  allowed_along (AppendBlockParams block types) stays ordered = pristine_along block
+  allowed_along (AppendFunctionParams block types) stays ordered = ap₂ (λ (a b : Bool). a && not b) (pristine_along block) (predecessors_along block)
+  allowed_along (DeclareVar ty) stays ordered = refl
+  allowed_along (DefVar variable value) stays ordered =
+      ap₂ (λ (is : Bool) (ty : Option «Type»). is && can_assign (variable_type ledger variable) ty) open_along (typed_along value)
+  allowed_along (UseVar variable) stays ordered = ap (λ (is : Bool). is && is_some (variable_type ledger variable)) open_along
+  allowed_along (MakeEntry entry) stays ordered = refl
+  allowed_along (MakeEdge edge) stays ordered = ap₂ (λ (a b : Bool). a && b) (has_along edge.target) (arguments_along edge.arguments)
+  allowed_along (MakeJumpTable default entries) stays ordered =
+      all_mapped rename (λ (name : Name). is_some (edge_named ledger name)) (λ (name : Name). is_some (edge_named other name)) edge_along (default ∷ entries)
+  allowed_along (MakeExceptionTable signature normal items) stays ordered =
+      ap₂ (λ (a b : Bool). a && b && has_entry ledger.tables (ASignatureRef signature)) (edge_along normal)
+      (all_mapped (renamed_item rename) (has_item ledger) (has_item other) item_along items)
+  allowed_along (Annotate inside values) stays ordered =
+      ap₂ (λ (is all : Bool). (if inside then is else true) && all) open_along (values_along values)
+  allowed_along (NeedStackMap need) stays ordered = need_along need
+  allowed_along (Build entries instruction) stays ordered =
+      ap₂ (λ (a b : Bool). a && b && can_operate instruction.operation instruction.controlling && list_all (has_entry ledger.tables) (operation_entries instruction.operation))
+      (ap₂ (λ (a b : Bool). a && b) (ap₂ (λ (a b : Bool). a && b)
+      (ap₂ (λ (a b : Bool). a && (tables_differ entries && b)) (values_along instruction.contexts) (all_give_along entries))
+      open_along) (values_along instruction.operands))
+      (leads_all_along instruction.edges ordered)
+  allowed_along (ChangeJumpDestination branch from to) stays ordered =
+      let both = and_parts (not (is_sealed ledger from)) (not (is_sealed ledger to)) ordered in
+      ap₂ (λ (a b : Bool). a && b) (ap₂ (λ (a b : Bool). a && b)
+      (ap₂ (λ (a b : Bool). a && b) (ap₂ (λ (a b : Bool). a && b) (built_along branch) (leads_along branch from)) (ap not (none_sealed from) ∙ sym both.0))
+      (has_along to)) (ap not (none_sealed to) ∙ sym both.1)
+  allowed_along Finalize stays ordered = refl
+
+  pub blamed_along : (request : Request) → blames_variable other (renamed_request rename request) ≡ blames_variable ledger request
+  blamed_along CreateBlock = refl
+  blamed_along (SwitchToBlock block) = refl
+  blamed_along (SealBlock block) = refl
+  blamed_along SealAllBlocks = refl
+  blamed_along (InsertBlockAfter block after) = refl
+  blamed_along (SetColdBlock block) = refl
+  blamed_along EnsureInsertedBlock = refl
+  blamed_along (AppendBlockParams block types) = refl
+  blamed_along (AppendFunctionParams block types) = refl
+  blamed_along (DeclareVar ty) = refl
+  blamed_along (DefVar variable value) =
+      ap₂ (λ (a : Bool) (ty : Option «Type»). a && not (can_assign (variable_type ledger variable) ty)) (ap₂ (λ (a b : Bool). a && b) open_along (value_along value)) (typed_along value)
+  blamed_along (UseVar variable) = ap (λ (is : Bool). is && not (is_some (variable_type ledger variable))) open_along
+  blamed_along (MakeEntry entry) = refl
+  blamed_along (MakeEdge edge) = refl
+  blamed_along (MakeJumpTable default entries) = refl
+  blamed_along (MakeExceptionTable signature normal items) = refl
+  blamed_along (Annotate inside values) = refl
+  blamed_along (NeedStackMap need) = refl
+  blamed_along (Build entries instruction) = refl
+  blamed_along (ChangeJumpDestination branch from to) = refl
+  blamed_along Finalize = refl
+
+  -- REFUSALS --------------------------------------------------------------------------------------------------------------
+
+  ended_along : (states : List BlockState) → list_all is_sealed_if_begun states ≡ true
+      → list_any is_unended (map (unsealed_state rename) states) ≡ is_some (unfinished (find is_unfinished states))
+  ended_along [] ordered = refl
+  ended_along (state ∷ states) ordered =
+      let both = and_parts (is_sealed_if_begun state) (list_all is_sealed_if_begun states) ordered in
+      ap (λ (rest : Bool). is_unended state || rest) (ended_along states both.1) ∙ by state.is_pristine state.is_sealed state.is_filled both.0
+    where
+      by : (pristine sealed filled : Bool) → not (not pristine && not sealed) ≡ true
+          → ((not pristine && not filled) || is_some (unfinished (find is_unfinished states)))
+          ≡ is_some (unfinished (cond (not pristine && not (sealed && filled)) (Some state) (find is_unfinished states)))
+      by true sealed filled is = refl
+      by false true true is = refl
+      by false true false is = refl
+      by false false filled is = let none : ⊥ = cc in absurd none
+
+  pub refused_along : (request : Request) → spares_order ledger request ≡ true → refuses_unsealed other (renamed_request rename request) ≡ is_some (refusal_of ledger request)
+  refused_along CreateBlock ordered = refl
+  refused_along (SwitchToBlock block) ordered = refl
+  refused_along (SealBlock block) ordered = refl
+  refused_along SealAllBlocks ordered = refl
+  refused_along (InsertBlockAfter block after) ordered = refl
+  refused_along (SetColdBlock block) ordered = refl
+  refused_along EnsureInsertedBlock ordered = refl
+  refused_along (AppendBlockParams block types) ordered = refl
+  refused_along (AppendFunctionParams block types) ordered = refl
+  refused_along (DeclareVar ty) ordered = refl
+  refused_along (DefVar variable value) ordered = refl
+  refused_along (UseVar variable) ordered = refl
+  refused_along (MakeEntry entry) ordered = refl
+  refused_along (MakeEdge edge) ordered = refl
+  refused_along (MakeJumpTable default entries) ordered = refl
+  refused_along (MakeExceptionTable signature normal items) ordered = refl
+  refused_along (Annotate inside values) ordered = refl
+  refused_along (NeedStackMap need) ordered = refl
+  refused_along (Build entries instruction) ordered = refl
+  refused_along (ChangeJumpDestination branch from to) ordered = refl
+  refused_along Finalize ordered = ended_along ledger.blocks ordered

@@ -1,0 +1,4 @@
+pub mod Order
+pub mod Attempts
+pub mod Laws
+pub mod Examples
