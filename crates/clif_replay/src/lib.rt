@@ -19,4 +19,6 @@ mod make_switch;
 mod make_tables;
 mod script;
 
+pub use clif_builder::FunctionBuilderContext;
+pub use clif_resolution::Condition;
 pub use script::{ReplayError, ReplayNotes, replay, replay_noted};

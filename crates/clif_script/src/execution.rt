@@ -5,10 +5,8 @@ ghost use Rattle.std.specs.Prelude.{◌<◌, IfOk, IfSome};
 use crate::command::Run;
 use crate::program::{Notes, tell_call, tell_unbuilt};
 use crate::source::{Source, tell_unread};
-use clif_builder::FunctionBuilderContext;
 use clif_regions::RegionOf;
-use clif_replay::{ReplayError, ReplayNotes, replay_noted};
-use clif_resolution::Condition;
+use clif_replay::{Condition, FunctionBuilderContext, ReplayError, ReplayNotes, replay_noted};
 use clif_runs::{
     ArgumentError, Comparison, Given, Numbering, Options, Report, Verdict, arguments_of, compare,
 };

@@ -19,8 +19,7 @@ pub use clif_calls::{
 pub use clif_graph::Graph;
 pub use clif_region_kinds::RegionKind;
 pub use clif_regions::RegionOf;
-pub use clif_replay::{ReplayError, ReplayNotes, replay, replay_noted};
-pub use clif_resolution::Condition;
+pub use clif_replay::{Condition, ReplayError, ReplayNotes, replay, replay_noted};
 pub use clif_runs::Options;
 pub use clif_worlds::STEPS;
 pub use command::{Command, Run, USAGE};

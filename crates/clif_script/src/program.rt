@@ -4,14 +4,12 @@ ghost use Rattle.clif_script.specs.Program.{HasTypesAs, IsAccepted, MakesFunctio
 
 use crate::constants::cut_constant;
 use crate::source::{Source, tell_unread};
-use clif_builder::FunctionBuilderContext;
 use clif_calls::{Call, Name};
 use clif_check::{CheckError, check};
 use clif_graph::Graph;
 use clif_ir::Function;
 use clif_regions::RegionOf;
-use clif_replay::{ReplayError, ReplayNotes, replay_noted};
-use clif_resolution::Condition;
+use clif_replay::{Condition, FunctionBuilderContext, ReplayError, ReplayNotes, replay_noted};
 use clif_text::{Hint, ReadError, Script};
 use clif_type_messages::type_message;
 use clif_words::words::words_of;

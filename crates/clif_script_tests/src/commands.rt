@@ -1,4 +1,4 @@
-//! What the words of the command lines of `clif_build` and `toy` ask for. The files of the folder `tests` have runs by such words.
+//! What the words of the command line of `clif_build` ask for. The files of the folder `tests` have runs by such words.
 #![tactic(auto)]
 
 use crate::support::words_of;
@@ -97,49 +97,6 @@ fn commands(rt: HostRuntime) -> Result<(), Fail> {
             Some(Command::Run { path, run }) => {
                 let task = Task::Run(run.arguments.len(), run.options);
                 Some((path, task))
-            }
-        };
-        assert!(rt; asked == *expected);
-    }
-    Ok(())
-}
-
-/// The same of `toy`: the file, and for a run the function, the number of arguments and the options.
-const TOY_COMMANDS: &[(&str, Option<(&str, Option<(&str, usize, Options)>)>)] = &[
-    ("a.toy", Some(("a.toy", None))),
-    ("-", Some(("-", None))),
-    (
-        "--run a.toy f",
-        Some(("a.toy", Some(("f", 0, Options::NONE)))),
-    ),
-    (
-        "--run a.toy f 1 -2",
-        Some(("a.toy", Some(("f", 2, Options::NONE)))),
-    ),
-    (
-        "--run --steps 7 a.toy f 1",
-        Some(("a.toy", Some(("f", 1, SEVEN)))),
-    ),
-    (
-        "--run --steps 7 --trace a.toy f",
-        Some(("a.toy", Some(("f", 0, SEVEN_TRACED)))),
-    ),
-    ("", None),
-    ("--run a.toy", None),
-    ("--run --steps x a.toy f", None),
-    ("a.toy f", None),
-];
-
-#[test]
-fn toy_commands(rt: HostRuntime) -> Result<(), Fail> {
-    for (text, expected) in TOY_COMMANDS {
-        let words = words_of(rt.alloc(), text)?;
-        let asked = match toy_runner::Command::of(words.as_slice()) {
-            None => None,
-            Some(toy_runner::Command::Print { path }) => Some((path, None)),
-            Some(toy_runner::Command::Run { path, run }) => {
-                let runs = (run.function, run.arguments.len(), run.options);
-                Some((path, Some(runs)))
             }
         };
         assert!(rt; asked == *expected);

@@ -2,10 +2,14 @@
 //! them. Where the file is `-`, the program is read from standard input.
 #![tactic(auto)]
 
+mod command;
+mod execution;
+
 use clif_command_line::{Question, bytes_of, tell_no_words, words};
+use command::{Command, USAGE};
+use execution::execute;
 use std::io;
 use std::process::ExitCode;
-use toy_runner::{Command, USAGE, execute};
 
 fn main(rt: HostRuntime) -> ExitCode {
     let words = match words(&rt) {

@@ -12,11 +12,11 @@ use crate::parser::Parser;
 use crate::tokens::{Token, tokens_of};
 use clif_calls::{Call, OutsideAnswer};
 use clif_ir::Function;
-use clif_replay::{ReplayError, ReplayNotes, replay, replay_noted};
-use clif_resolution::Condition;
+use clif_replay::{
+    Condition, FunctionBuilderContext, ReplayError, ReplayNotes, replay, replay_noted,
+};
 use clif_types::types::I64;
 use clif_types::{AbiParam, CallConv, PointerWidth, Signature, TargetFrontendConfig, UserFuncName};
-use cranelift_frontend::FunctionBuilderContext;
 use std::alloc::{AllocError, Global};
 use std::{io, str};
 
