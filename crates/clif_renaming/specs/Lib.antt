@@ -1,4 +1,5 @@
 pub mod Renaming
 pub mod Sealing
+pub mod CallsSealing
 pub mod Laws
 pub mod Examples

@@ -6,7 +6,7 @@ use Rattle.clif_meaning.specs.Instruction.{Bytes, Operation, Switch}
 use Rattle.clif_expansion.specs.ScriptCall.{Emit, ScriptCall}
 use Rattle.clif_replay.specs.Requests.{calls_of}
 use Rattle.clif_premise_examples.specs.Scripts.{branches_calls}
-use Rattle.clif_sealing_laws.specs.CallsSealing.{CallsDifferInSealing}
+use Rattle.clif_renaming.specs.CallsSealing.{CallsDifferInSealing}
 use Rattle.clif_sealing_laws.specs.Examples.{branches_early, copying_first, copying_last, of_addresses, target}
 
 -- the size of a copy, or the first key of a switch

@@ -26,6 +26,7 @@ use Rattle.clif_calls.specs.declared.call.Call.TheVariants as call
 use Rattle.clif_calls.specs.declared.call.Name.{Name}
 use Rattle.clif_calls.specs.declared.immediate.ImmediateCall.TheVariants.{IaddImmS}
 use Rattle.clif_calls.specs.declared.memory.MemoryCall.TheVariants.{Copy}
+use Rattle.clif_renaming.specs.CallsSealing.{CallsDifferInSealing}
 use Rattle.clif_renaming.specs.Sealing.{DifferInSealing}
 use Rattle.clif_expansion.specs.CallsHeadline.{CallsPremises, run_of_calls}
 use Rattle.clif_expansion.specs.CallsVerdict.{verdict_on_call_attempts, verdict_on_calls}
@@ -35,7 +36,6 @@ use Rattle.clif_replay.specs.Requests.{attempts_of, calls_of}
 use Rattle.clif_premise_examples.specs.Examples.{on_branches, on_copies}
 use Rattle.clif_premise_examples.specs.Premise.{Situation}
 use Rattle.clif_premise_examples.specs.Scripts.{asking, branches_calls, copies_calls, copying, helping, memcpy_by, passing, table_edges, taking, trusted, untrusted}
-use Rattle.clif_sealing_laws.specs.CallsSealing.{CallsDifferInSealing}
 
 -- the first answer of the call at this place, and the second answer
 abbrev pub answer_to : ℕ → Name

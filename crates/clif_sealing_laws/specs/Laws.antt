@@ -13,13 +13,13 @@ use Rattle.clif_meaning.specs.SameMeaning.{SameMeaning}
 use Rattle.clif_meaning.specs.View.{view_of}
 use Rattle.clif_meaning.specs.World.{World}
 use Rattle.clif_calls.specs.declared.call.Call.{Call}
+use Rattle.clif_renaming.specs.CallsSealing.{CallsDifferInSealing}
 use Rattle.clif_renaming.specs.Sealing.{DifferInSealing}
 use Rattle.clif_expansion.specs.CallsHeadline.{CallsMeanTheSame, CallsPremises, behaviour_beside_calls, run_of_calls}
 use Rattle.clif_replay.specs.Requests.{calls_of}
 use Rattle.clif_replay.specs.Replayed.{IsBuiltBy, recorded_in}
 use Rattle.clif_builder.specs.Context.{ContextState}
 use Rattle.clif_builder.specs.StandsFor.{StandsIn}
-use Rattle.clif_sealing_laws.specs.CallsSealing.{CallsDifferInSealing}
 
 -- A finished function of a builder: the builder stood for the calls, with this context and current block, as `stands` of each
 -- call says; and the function means what they mean, as `same_meaning` of `finalize` says where it succeeds.

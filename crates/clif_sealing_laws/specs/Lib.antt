@@ -1,4 +1,3 @@
-pub mod CallsSealing
 pub mod Laws
 pub mod SwitchOrder
 pub mod Examples

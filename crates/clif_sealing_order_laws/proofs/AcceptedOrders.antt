@@ -1,25 +1,17 @@
--- Accepted calls have an allowed order; where it is allowed no call that seals is stopped.
-use Rattle.std.proofs.Common.{◌≡◌, ◌+◌, ℕ, suc, Bool, true, false, cond, not, List, [], ◌∷◌, ◌++◌, refl, ◌∙◌, ap, arith, Some}
-use Rattle.std.specs.Prelude.{◌&&◌, ◌||◌, find, if◌then◌else◌, is_some, slice_get}
+-- What a call of the builder that may be made, or that seals, says of the order of sealing.
+use Rattle.std.proofs.Common.{◌≡◌, Bool, true, false, cond, not, List, [], ◌∷◌, refl, Some}
+use Rattle.std.specs.Prelude.{◌&&◌, find, is_some}
 use Rattle.std.specs.List.{list_all}
-use Rattle.std.proofs.lemmas.Bool.{and_from, and_parts, or_left, or_right}
-use Rattle.std.proofs.lemmas.Option.{same_Some}
-use Rattle.clif_meaning.specs.Acceptance.{Accepted, Misuse, Refused, Verdict, allows, can_lead, can_leave, can_operate, has_argument, has_entry, is_open, is_refused, is_unfinished, may_give_all, refusal_of, unfinished, verdict_from, verdict_on_attempts}
+use Rattle.std.proofs.lemmas.Bool.{and_from, and_parts, or_left}
+use Rattle.clif_meaning.specs.Acceptance.{allows, can_lead, can_leave, can_operate, has_argument, has_entry, is_open, is_unfinished, may_give_all, refusal_of, unfinished}
 use Rattle.clif_meaning.specs.Instruction.{Edge, operation_entries}
-use Rattle.clif_meaning.specs.Ledger.{BlockState, Ledger, empty_ledger, has_block, has_instruction, has_value, is_filled, is_sealed, leads_to, ledger_with}
+use Rattle.clif_meaning.specs.Ledger.{BlockState, Ledger, has_block, has_instruction, has_value, is_filled, is_sealed, leads_to}
 use Rattle.clif_meaning.specs.Name.{Name}
-use Rattle.clif_meaning.specs.Request.{Request, CreateBlock, SwitchToBlock, SealBlock, SealAllBlocks, InsertBlockAfter, SetColdBlock, EnsureInsertedBlock, AppendBlockParams, AppendFunctionParams, DeclareVar, DefVar, UseVar, MakeEntry, MakeEdge, MakeJumpTable, MakeExceptionTable, Annotate, NeedStackMap, Build, ChangeJumpDestination, Finalize, Attempt, Script, outright}
+use Rattle.clif_meaning.specs.Request.{Request, CreateBlock, SwitchToBlock, SealBlock, SealAllBlocks, InsertBlockAfter, SetColdBlock, EnsureInsertedBlock, AppendBlockParams, AppendFunctionParams, DeclareVar, DefVar, UseVar, MakeEntry, MakeEdge, MakeJumpTable, MakeExceptionTable, Annotate, NeedStackMap, Build, ChangeJumpDestination, Finalize}
 use Rattle.clif_renaming.specs.Sealing.{is_sealing}
-use Rattle.clif_sealing_order_laws.specs.Attempts.{requests_of, seals, stopped_at}
-use Rattle.clif_sealing_order_laws.specs.Order.{IsAllowedOrder, IsBlamelessOrder, allows_order, is_allowed_from, is_blameless_from, is_left_anyhow, is_sealed_if_begun, is_unsealed_target, spares_order}
+use Rattle.clif_sealing_order_laws.specs.Order.{allows_order, is_left_anyhow, is_sealed_if_begun, is_unsealed_target, spares_order}
 
--- the verdict by whether a call is allowed, to blame, and refused
-abbrev pub decided : ℕ → (allowed blamed refused : Bool) → Verdict → Verdict
-decided place allowed blamed refused rest = if not allowed then (if blamed then Refused place else Misuse place) else (if refused then Refused place else rest)
-
--- ONE CALL ----------------------------------------------------------------------------------------------------------------
-
-leads_unsealed : (ledger : Ledger) (edges : List (Edge Name Name)) → list_all (can_lead ledger) edges ≡ true → list_all (is_unsealed_target ledger) edges ≡ true
+pub leads_unsealed : (ledger : Ledger) (edges : List (Edge Name Name)) → list_all (can_lead ledger) edges ≡ true → list_all (is_unsealed_target ledger) edges ≡ true
 leads_unsealed ledger [] lead = refl
 leads_unsealed ledger (edge ∷ edges) lead =
     let both = and_parts (can_lead ledger edge) (list_all (can_lead ledger) edges) lead in
@@ -40,7 +32,7 @@ finished_sealed (state ∷ states) none = by state.is_pristine state.is_sealed s
     by false false filled is later = let no_way : ⊥ = cc in absurd no_way
 
 -- a call that may be made and isn't refused gets what it asks of the sealing before it
-allowed_ordered : (ledger : Ledger) (request : Request) → allows ledger request ≡ true → is_some (refusal_of ledger request) ≡ false → allows_order ledger request ≡ true
+pub allowed_ordered : (ledger : Ledger) (request : Request) → allows ledger request ≡ true → is_some (refusal_of ledger request) ≡ false → allows_order ledger request ≡ true
 allowed_ordered ledger CreateBlock may none = refl
 allowed_ordered ledger (SwitchToBlock block) may none = (and_parts (has_block ledger block && not (is_filled ledger block)) (can_leave ledger ledger.current) may).1
 allowed_ordered ledger (SealBlock block) may none = may
@@ -119,38 +111,8 @@ seal_unrefused ledger (Build entries instruction) seals = refl
 seal_unrefused ledger (ChangeJumpDestination branch from to) seals = refl
 seal_unrefused ledger Finalize seals = let none : ⊥ = cc in absurd none
 
--- ALL CALLS ---------------------------------------------------------------------------------------------------------------
-
-accepted_ordered : (place : ℕ) (ledger : Ledger) (attempts : List Attempt) → verdict_from place ledger (attempts ++ outright Finalize ∷ []) ≡ Accepted
-    → is_allowed_from ledger (requests_of attempts ++ Finalize ∷ []) ≡ true
-accepted_ordered place ledger [] accepted =
-    and_from (allows_order ledger Finalize) true (allowed_ordered ledger Finalize refl (by (is_some (refusal_of ledger Finalize)) accepted)) refl
-  where
-    by : (refused : Bool) → (if refused then Refused place else Accepted) ≡ Accepted → refused ≡ false
-    by true is = let no_way : ⊥ = cc in absurd no_way
-    by false is = refl
-accepted_ordered place ledger (attempt ∷ attempts) accepted =
-    by (allows ledger attempt.request) refl (is_refused ledger attempt) (is_some (refusal_of ledger attempt.request)) refl
-    (accepted_ordered (suc place) (ledger_with ledger attempt.request) attempts) accepted
-  where
-    behind : Verdict
-    behind = verdict_from (suc place) (ledger_with ledger attempt.request) (attempts ++ outright Finalize ∷ [])
-
-    by : (allowed : Bool) → allows ledger attempt.request ≡ allowed → (blamed refused : Bool) → is_some (refusal_of ledger attempt.request) ≡ refused
-        → (behind ≡ Accepted → is_allowed_from (ledger_with ledger attempt.request) (requests_of attempts ++ Finalize ∷ []) ≡ true)
-        → decided place allowed blamed refused behind ≡ Accepted → is_allowed_from ledger (requests_of (attempt ∷ attempts) ++ Finalize ∷ []) ≡ true
-    by true may blamed false none later is =
-        and_from (allows_order ledger attempt.request) (is_allowed_from (ledger_with ledger attempt.request) (requests_of attempts ++ Finalize ∷ []))
-        (allowed_ordered ledger attempt.request may none) (later is)
-    by true may blamed true none later is = let no_way : ⊥ = cc in absurd no_way
-    by false may true refused none later is = let no_way : ⊥ = cc in absurd no_way
-    by false may false refused none later is = let no_way : ⊥ = cc in absurd no_way
-
-pub accepted_is_allowed : (attempts : List Attempt) → verdict_on_attempts attempts ≡ Accepted → IsAllowedOrder (requests_of attempts)
-accepted_is_allowed attempts accepted = accepted_ordered 0 empty_ledger attempts accepted
-
 -- where its order is allowed sealing isn't to blame
-allowed_spared : (ledger : Ledger) (request : Request) → allows_order ledger request ≡ true → spares_order ledger request ≡ true
+pub allowed_spared : (ledger : Ledger) (request : Request) → allows_order ledger request ≡ true → spares_order ledger request ≡ true
 allowed_spared ledger CreateBlock ordered = ordered
 allowed_spared ledger (SwitchToBlock block) ordered = or_left (can_leave ledger ledger.current) (is_left_anyhow ledger ledger.current) ordered
 allowed_spared ledger (SealBlock block) ordered = ordered
@@ -172,67 +134,3 @@ allowed_spared ledger (NeedStackMap need) ordered = ordered
 allowed_spared ledger (Build entries instruction) ordered = ordered
 allowed_spared ledger (ChangeJumpDestination branch from to) ordered = ordered
 allowed_spared ledger Finalize ordered = ordered
-
-blameless_from : (ledger : Ledger) (script : Script) → is_allowed_from ledger script ≡ true → is_blameless_from ledger script ≡ true
-blameless_from ledger [] ordered = refl
-blameless_from ledger (request ∷ script) ordered =
-    let both = and_parts (allows_order ledger request) (is_allowed_from (ledger_with ledger request) script) ordered in
-    and_from (spares_order ledger request) (not (allows ledger request) || is_blameless_from (ledger_with ledger request) script)
-    (allowed_spared ledger request both.0)
-    (or_right (not (allows ledger request)) (is_blameless_from (ledger_with ledger request) script) (blameless_from (ledger_with ledger request) script both.1))
-
-pub allowed_is_blameless : (script : Script) → IsAllowedOrder script → IsBlamelessOrder script
-allowed_is_blameless script ordered = blameless_from empty_ledger (script ++ Finalize ∷ []) ordered
-
-pub made_then : (made rest : Bool) → (not made || rest) ≡ true → made ≡ true → rest ≡ true
-made_then true rest either is = either
-made_then false rest either is = let none : ⊥ = cc in absurd none
-
--- a call that doesn't seal, or the end, is at this place behind a first one
-abbrev IsLeftFrom : ℕ → List Attempt → ℕ → Type 0
-IsLeftFrom place attempts stop = (k : ℕ) × (stop ≡ place + k) × (seals (slice_get (requests_of attempts) k) ≡ false)
-
-stopped_left : (place : ℕ) (ledger : Ledger) (attempts : List Attempt) (stop : ℕ) → is_blameless_from ledger (requests_of attempts ++ Finalize ∷ []) ≡ true
-    → stopped_at (verdict_from place ledger (attempts ++ outright Finalize ∷ [])) ≡ Some stop → IsLeftFrom place attempts stop
-stopped_left place ledger [] stop ordered stopped = by (is_some (refusal_of ledger Finalize)) stopped
-  where
-    by : (refused : Bool) → stopped_at (if refused then Refused place else Accepted) ≡ Some stop → IsLeftFrom place [] stop
-    by true is = let here = same_Some place stop is in (0, omega (arith, here), refl)
-    by false is = let no_way : ⊥ = cc in absurd no_way
-stopped_left place ledger (attempt ∷ attempts) stop ordered stopped =
-    let both = and_parts (spares_order ledger attempt.request)
-    (not (allows ledger attempt.request) || is_blameless_from (ledger_with ledger attempt.request) (requests_of attempts ++ Finalize ∷ [])) ordered in
-    by (is_sealing attempt.request) refl (allows ledger attempt.request) refl (is_refused ledger attempt) (is_some (refusal_of ledger attempt.request)) refl both.0
-    (λ may. stopped_left (suc place) (ledger_with ledger attempt.request) attempts stop
-    (made_then (allows ledger attempt.request) (is_blameless_from (ledger_with ledger attempt.request) (requests_of attempts ++ Finalize ∷ [])) both.1 may))
-    stopped
-  where
-    behind : Verdict
-    behind = verdict_from (suc place) (ledger_with ledger attempt.request) (attempts ++ outright Finalize ∷ [])
-
-    later : IsLeftFrom (suc place) attempts stop → IsLeftFrom place (attempt ∷ attempts) stop
-    later found = let at = found.1 in (suc found.0, omega (arith, at), found.2)
-
-    here : is_sealing attempt.request ≡ false → place ≡ stop → IsLeftFrom place (attempt ∷ attempts) stop
-    here stays same = (0, omega (arith, same), stays)
-
-    by : (c : Bool) → is_sealing attempt.request ≡ c → (allowed : Bool) → allows ledger attempt.request ≡ allowed → (blamed refused : Bool)
-        → is_some (refusal_of ledger attempt.request) ≡ refused → spares_order ledger attempt.request ≡ true
-        → (allows ledger attempt.request ≡ true → stopped_at behind ≡ Some stop → IsLeftFrom (suc place) attempts stop)
-        → stopped_at (decided place allowed blamed refused behind) ≡ Some stop → IsLeftFrom place (attempt ∷ attempts) stop
-    by c is true may blamed false none order rest stops = later (rest may stops)
-    by false is true may blamed true none order rest stops = here is (same_Some place stop stops)
-    by false is false may true refused none order rest stops = here is (same_Some place stop stops)
-    by false is false may false refused none order rest stops = here is (same_Some place stop stops)
-    by true is true may blamed true none order rest stops =
-        let unrefused = seal_unrefused ledger attempt.request is in let no_way : ⊥ = cc in absurd no_way
-    by true is false may blamed refused none order rest stops =
-        let allowed = seal_allowed ledger attempt.request is order in let no_way : ⊥ = cc in absurd no_way
-
-pub no_seal_stopped : (attempts : List Attempt) (place : ℕ) → IsBlamelessOrder (requests_of attempts) → stopped_at (verdict_on_attempts attempts) ≡ Some place
-    → seals (slice_get (requests_of attempts) place) ≡ false
-no_seal_stopped attempts place ordered stopped =
-    let found = stopped_left 0 empty_ledger attempts place ordered stopped in
-    let at = found.1 in
-    let same : place ≡ found.0 = omega (arith, at) in
-    ap (λ (k : ℕ). seals (slice_get (requests_of attempts) k)) same ∙ found.2

@@ -4,5 +4,7 @@ pub mod RenamedAnswers
 pub mod RenamedConditions
 pub mod RenamedCalls
 pub mod AcceptedOrders
+pub mod AcceptedCalls
 pub mod Verdicts
+pub mod PlainCalls
 pub mod OrderRow

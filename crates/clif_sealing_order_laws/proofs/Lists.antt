@@ -1,6 +1,6 @@
 -- Lists of renamed elements.
 use Rattle.std.proofs.Common.{◌≡◌, ◌≢◌, ℕ, zero, suc, Bool, true, false, cond, List, [], ◌∷◌, ◌++◌, length, map, refl, sym, ◌∙◌, ap, ap₂, Option, Some, None}
-use Rattle.std.specs.Prelude.{◌&&◌, ◌||◌, find, filter, filter_map, flat_map, slice_get, option_map}
+use Rattle.std.specs.Prelude.{◌&&◌, ◌||◌, find, filter, filter_map, flat_map, is_some, slice_get, option_map}
 use Rattle.std.specs.List.{cons_option, list_all, list_any}
 use Rattle.std.proofs.lemmas.List.{map-append}
 
@@ -58,3 +58,7 @@ get_pushed_other [] x zero other = absurd (other refl)
 get_pushed_other [] x (suc k) other = refl
 get_pushed_other (y ∷ xs) x zero other = refl
 get_pushed_other (y ∷ xs) x (suc k) other = get_pushed_other xs x k (λ same. other (ap suc same))
+
+pub some_mapped : {X Y : Type 0} (f : X → Y) (o : Option X) → is_some (option_map f o) ≡ is_some o
+some_mapped f None = refl
+some_mapped f (Some x) = refl

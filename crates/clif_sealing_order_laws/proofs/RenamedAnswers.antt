@@ -81,7 +81,7 @@ module _ (rename : Name → Name) where
   items_kinds (DefaultTo edge ∷ items) = ap (λ (rest : List CallItem). item_kind (DefaultTo edge) ∷ rest) (items_kinds items)
   items_kinds (InContext value ∷ items) = ap (λ (rest : List CallItem). item_kind (InContext value) ∷ rest) (items_kinds items)
 
-  values_along : (types : List «Type») → map AValue types ≡ map (renamed_answer rename) (map AValue types)
+  pub values_along : (types : List «Type») → map AValue types ≡ map (renamed_answer rename) (map AValue types)
   values_along [] = refl
   values_along (ty ∷ types) = ap (λ (rest : List Answered). AValue ty ∷ rest) (values_along types)
 

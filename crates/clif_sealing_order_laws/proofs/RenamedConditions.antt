@@ -6,16 +6,20 @@ use Rattle.std.proofs.lemmas.Bool.{and_parts}
 use Rattle.clif_types.specs.declared.types.«Type».{«Type»}
 use Rattle.clif_instructions.specs.Instruction.{ASignatureRef}
 use Rattle.clif_meaning.specs.Acceptance.{allows, blames_variable, can_assign, can_lead, can_leave, can_operate, fits_stack_map, has_argument, has_entry, has_item, is_open, is_unfinished, may_give, may_need, refusal_of, tables_differ, unfinished}
-use Rattle.clif_meaning.specs.Instruction.{Argument, Known, CallResult, CallPayload, Edge, operation_entries}
+use Rattle.clif_meaning.specs.Instruction.{Argument, Known, CallResult, CallPayload, Edge, Operation, operation_entries}
 use Rattle.clif_meaning.specs.Ledger.{Answered, BlockState, Ledger, block_state, edge_named, has_block, has_instruction, has_predecessors, has_value, is_empty, is_filled, is_inserted, is_instruction_answer, is_pristine, is_sealed, leads_to, or_invalid, state_has, type_of, value_answer_type, variable_type, begins_with}
 use Rattle.clif_meaning.specs.Name.{Name, same_name}
 use Rattle.clif_meaning.specs.Request.{Request, CreateBlock, SwitchToBlock, SealBlock, SealAllBlocks, InsertBlockAfter, SetColdBlock, EnsureInsertedBlock, AppendBlockParams, AppendFunctionParams, DeclareVar, DefVar, UseVar, MakeEntry, MakeEdge, MakeJumpTable, MakeExceptionTable, Annotate, NeedStackMap, Build, ChangeJumpDestination, Finalize, GivenEntry, ServedBy, TriedBy, Imported, TableItem, TagTo, DefaultTo, InContext, StackMapNeed, OfVariable, OfValue}
+use Rattle.clif_expansion.specs.CallsVerdict.{call_blames_variable}
+use Rattle.clif_expansion.specs.ScriptCall.{Ask, Emit, OfCall, ScriptCall, call_allowed, call_refusal, can_emit, is_byte, is_second_byte, sets_bytes, takes_byte}
+use Rattle.clif_renaming.specs.CallsSealing.{counted_as, renamed_call}
 use Rattle.clif_renaming.specs.Renaming.{KeepsApart, renamed_argument, renamed_edge}
 use Rattle.clif_renaming.specs.Sealing.{is_sealing, renamed_item, renamed_need, renamed_request}
 use Rattle.clif_renaming.proofs.RenamedNames.{same_renamed}
 use Rattle.clif_renaming.proofs.TrackedNames.{list_any_renamed}
+use Rattle.clif_sealing_order_laws.specs.CallOrder.{spares_call_order}
 use Rattle.clif_sealing_order_laws.specs.Order.{is_left_anyhow, is_sealed_if_begun, is_unsealed_target, spares_order}
-use Rattle.clif_sealing_order_laws.proofs.Lists.{all_mapped}
+use Rattle.clif_sealing_order_laws.proofs.Lists.{all_mapped, some_mapped}
 use Rattle.clif_sealing_order_laws.proofs.RenamedAnswers.{AnswersGoAlong, answer_in, edge_named_along, instruction_along, type_along}
 use Rattle.clif_sealing_order_laws.proofs.RenamedLedgers.{has_mapped, state_found, unsealed_ledger, unsealed_state}
 
@@ -27,7 +31,7 @@ could_leave ledger (Some block) =
     || is_pristine ledger block || is_filled ledger block
 
 -- the condition of each kind of call, where nothing is sealed: as if the current block were
-abbrev pub allows_unsealed : Ledger → Request → Bool
+abbrev allows_unsealed : Ledger → Request → Bool
 allows_unsealed ledger (SwitchToBlock block) = has_block ledger block && not (is_filled ledger block) && could_leave ledger ledger.current
 allows_unsealed ledger request = allows ledger request
 
@@ -36,9 +40,18 @@ abbrev pub is_unended : BlockState → Bool
 is_unended state = not state.is_pristine && not state.is_filled
 
 -- and what `finalize` is refused for there
-abbrev pub refuses_unsealed : Ledger → Request → Bool
+abbrev refuses_unsealed : Ledger → Request → Bool
 refuses_unsealed ledger Finalize = list_any is_unended ledger.blocks
 refuses_unsealed ledger _ = false
+
+-- the same of a call of a script
+abbrev pub call_allows_unsealed : Ledger → ScriptCall → Bool
+call_allows_unsealed ledger (Ask request) = allows_unsealed ledger request
+call_allows_unsealed ledger call = call_allowed ledger call
+
+abbrev pub call_refuses_unsealed : Ledger → ScriptCall → Bool
+call_refuses_unsealed ledger (Ask request) = refuses_unsealed ledger request
+call_refuses_unsealed ledger call = is_some (call_refusal ledger call)
 
 -- a block can be left if it is sealed, and could be if it were: the same, unless sealing decides
 leave_same : (bare entry sealed led there pristine filled : Bool) → (sealed ≡ true → there ≡ true)
@@ -54,10 +67,6 @@ leave_same false false false false true true filled is spared = refl
 leave_same false false false false true false true is spared = refl
 leave_same false false false false true false false is spared = let no_way : ⊥ = cc in absurd no_way
 leave_same false false false false false pristine filled is spared = refl
-
-some_mapped : {X Y : Type 0} (f : X → Y) (o : Option X) → is_some (option_map f o) ≡ is_some o
-some_mapped f None = refl
-some_mapped f (Some x) = refl
 
 empty_mapped : {X Y : Type 0} (f : X → Y) (xs : List X) → is_empty (map f xs) ≡ is_empty xs
 empty_mapped f [] = refl
@@ -197,7 +206,7 @@ module _ (rename : Name → Name) (apart : KeepsApart rename) (ledger : Ledger) 
 
   -- CONDITIONS ------------------------------------------------------------------------------------------------------------
 
-  pub allowed_along : (request : Request) → is_sealing request ≡ false → spares_order ledger request ≡ true
+  allowed_along : (request : Request) → is_sealing request ≡ false → spares_order ledger request ≡ true
       → allows_unsealed other (renamed_request rename request) ≡ allows ledger request
   allowed_along CreateBlock stays ordered = refl
   allowed_along (SwitchToBlock block) stays ordered =
@@ -237,7 +246,7 @@ module _ (rename : Name → Name) (apart : KeepsApart rename) (ledger : Ledger) 
       (has_along to)) (ap not (none_sealed to) ∙ sym both.1)
   allowed_along Finalize stays ordered = refl
 
-  pub blamed_along : (request : Request) → blames_variable other (renamed_request rename request) ≡ blames_variable ledger request
+  blamed_along : (request : Request) → blames_variable other (renamed_request rename request) ≡ blames_variable ledger request
   blamed_along CreateBlock = refl
   blamed_along (SwitchToBlock block) = refl
   blamed_along (SealBlock block) = refl
@@ -278,7 +287,7 @@ module _ (rename : Name → Name) (apart : KeepsApart rename) (ledger : Ledger) 
       by false true false is = refl
       by false false filled is = let none : ⊥ = cc in absurd none
 
-  pub refused_along : (request : Request) → spares_order ledger request ≡ true → refuses_unsealed other (renamed_request rename request) ≡ is_some (refusal_of ledger request)
+  refused_along : (request : Request) → spares_order ledger request ≡ true → refuses_unsealed other (renamed_request rename request) ≡ is_some (refusal_of ledger request)
   refused_along CreateBlock ordered = refl
   refused_along (SwitchToBlock block) ordered = refl
   refused_along (SealBlock block) ordered = refl
@@ -300,3 +309,32 @@ module _ (rename : Name → Name) (apart : KeepsApart rename) (ledger : Ledger) 
   refused_along (Build entries instruction) ordered = refl
   refused_along (ChangeJumpDestination branch from to) ordered = refl
   refused_along Finalize ordered = ended_along ledger.blocks ordered
+
+  -- CALLS OF SCRIPTS ------------------------------------------------------------------------------------------------------
+
+  takes_along : (operation : Operation) (names : List Name) → takes_byte other operation (map rename names) ≡ takes_byte ledger operation names
+  takes_along operation names = ap (λ (is : Bool). if sets_bytes operation then is else true) (second_along names)
+    where
+      second_along : (names : List Name) → is_second_byte other (map rename names) ≡ is_second_byte ledger names
+      second_along [] = refl
+      second_along (target ∷ []) = refl
+      second_along (target ∷ byte ∷ names) = ap is_byte (typed_along byte)
+
+  pub call_allowed_along : (call : ScriptCall) → is_sealing (counted_as call) ≡ false → spares_call_order ledger call ≡ true
+      → call_allows_unsealed other (renamed_call rename call) ≡ call_allowed ledger call
+  call_allowed_along (Ask request) stays ordered = allowed_along request stays ordered
+  call_allowed_along (Emit imports instruction) stays ordered =
+      ap₂ (λ (a b : Bool). a && b && can_emit instruction.operation instruction.controlling)
+      (ap₂ (λ (a b : Bool). a && b) (ap₂ (λ (a b : Bool). a && b)
+      (ap₂ (λ (a b : Bool). a && b) (values_along instruction.contexts) (takes_along instruction.operation instruction.operands))
+      open_along) (values_along instruction.operands))
+      (leads_all_along instruction.edges ordered)
+
+  pub call_blamed_along : (call : ScriptCall) → call_blames_variable other (renamed_call rename call) ≡ call_blames_variable ledger call
+  call_blamed_along (Ask request) = blamed_along request
+  call_blamed_along (Emit imports instruction) = refl
+
+  pub call_refused_along : (call : ScriptCall) → spares_call_order ledger call ≡ true
+      → call_refuses_unsealed other (renamed_call rename call) ≡ is_some (call_refusal ledger call)
+  call_refused_along (Ask request) ordered = refused_along request ordered ∙ sym (some_mapped OfCall (refusal_of ledger request))
+  call_refused_along (Emit imports instruction) ordered = refl

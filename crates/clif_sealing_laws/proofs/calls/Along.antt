@@ -3,9 +3,9 @@ use Rattle.std.proofs.Common.{◌≡◌, ℕ, suc, Bool, true, false, cond, not,
 use Rattle.std.specs.Prelude.{fold}
 use Rattle.clif_meaning.specs.Name.{Name, answer_of}
 use Rattle.clif_expansion.specs.ScriptCall.{ScriptCall}
+use Rattle.clif_renaming.specs.CallsSealing.{calls_left, counted_as, renamed_call}
 use Rattle.clif_renaming.specs.Sealing.{is_sealing}
 use Rattle.clif_renaming.proofs.Places.{Follows, follows_call, follows_here, follows_seal}
-use Rattle.clif_sealing_laws.specs.CallsSealing.{calls_left, counted_as, renamed_call}
 
 -- the call seals, and so is none that is left
 abbrev pub seals : ScriptCall → Bool

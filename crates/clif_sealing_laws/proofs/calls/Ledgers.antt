@@ -12,6 +12,7 @@ use Rattle.clif_meaning.specs.Ledger.{Answered, Ledger, answers_to, empty_ledger
 use Rattle.clif_meaning.specs.Name.{Name, answer_of}
 use Rattle.clif_expansion.specs.ScriptCall.{Ask, Emit, ScriptCall, call_answers, ledger_behind, ledger_of, ledger_with_call, with_imports}
 use Rattle.clif_expansion.proofs.Joins.{answers_last}
+use Rattle.clif_renaming.specs.CallsSealing.{counted_as, renamed_call, unsealed_calls}
 use Rattle.clif_renaming.specs.Renaming.{KeepsApart, renamed_edge, renamed_instruction}
 use Rattle.clif_renaming.specs.Sealing.{name_left}
 use Rattle.clif_renaming.proofs.Filled as fillings
@@ -19,7 +20,6 @@ use Rattle.clif_renaming.proofs.Filled.{SameFilled, built_both, filled_alike}
 use Rattle.clif_renaming.proofs.Ledgers as ledgers
 use Rattle.clif_renaming.proofs.Ledgers.{SameTables, answered_alike, both_kept, built, flat, no_answer, typed_in, types_of}
 use Rattle.clif_renaming.proofs.Places.{follows_at_first, names_apart}
-use Rattle.clif_sealing_laws.specs.CallsSealing.{counted_as, renamed_call, unsealed_calls}
 use Rattle.clif_sealing_laws.proofs.calls.Along.{agree_along, seals}
 
 -- EMISSIONS ---------------------------------------------------------------------------------------------------------------

@@ -20,6 +20,7 @@ use Rattle.clif_meaning.specs.World.{World}
 use Rattle.clif_expansion.specs.CallsHeadline.{CallsMeanTheSame, CallsPremises, behaviour_beside_calls, behaviour_of_calls, run_of_calls}
 use Rattle.clif_expansion.specs.CallsRun.{calls_track}
 use Rattle.clif_expansion.specs.ScriptCall.{ScriptCall, ledger_of, program_of_calls}
+use Rattle.clif_renaming.specs.CallsSealing.{CallsDifferInSealing, counted_as, unsealed_calls}
 use Rattle.clif_renaming.specs.Renaming.{IsRenamedRun}
 use Rattle.clif_renaming.specs.Sealing.{name_left}
 use Rattle.clif_renaming.proofs.ItemPremises.{exactly_then, libraries_alike, said_of_equals, targets_alike, tracked_alike, turned, typed_alike}
@@ -28,7 +29,6 @@ use Rattle.clif_renaming.proofs.PlacedNames.{placed_alike}
 use Rattle.clif_renaming.proofs.Places.{names_apart}
 use Rattle.clif_renaming.proofs.Premises.{mean_the_same, world_of_both}
 use Rattle.clif_renaming.proofs.StepPremises.{claims_true_alike, slots_spared_alike}
-use Rattle.clif_sealing_laws.specs.CallsSealing.{CallsDifferInSealing, counted_as, unsealed_calls}
 use Rattle.clif_sealing_laws.proofs.calls.Ledgers.{filled_in_calls, unsealed_ledgers}
 use Rattle.clif_sealing_laws.proofs.calls.Programs.{bare_elsewhere_in_calls, unsealed_calls_program}
 use Rattle.clif_sealing_laws.proofs.calls.TrackedNames.{marked_in_calls, tracked_in_calls}

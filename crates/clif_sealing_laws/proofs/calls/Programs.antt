@@ -6,13 +6,13 @@ use Rattle.clif_meaning.specs.Instruction.{Instruction, Operation, Switch}
 use Rattle.clif_meaning.specs.Name.{Name, answer_of}
 use Rattle.clif_meaning.specs.Program.{Program, empty_program, with_inserted, with_item}
 use Rattle.clif_expansion.specs.ScriptCall.{Ask, Emit, ScriptCall, emitted_item, emitted_types, program_behind, program_of_calls, program_with_call}
+use Rattle.clif_renaming.specs.CallsSealing.{counted_as, renamed_call, unsealed_calls}
 use Rattle.clif_renaming.specs.Renaming.{IsRenamedProgram, KeepsApart, renamed_instruction}
 use Rattle.clif_renaming.specs.Sealing.{name_left}
 use Rattle.clif_renaming.proofs.Images.{HasImages, IsBareElsewhere, images_after, inserted_images, item_images}
 use Rattle.clif_renaming.proofs.Places.{follows_at_first, names_apart}
 use Rattle.clif_renaming.proofs.Programs as programs
 use Rattle.clif_renaming.proofs.Programs.{IsRenamedSoFar, answers_renamed, inserted, item_more, placed}
-use Rattle.clif_sealing_laws.specs.CallsSealing.{counted_as, renamed_call, unsealed_calls}
 use Rattle.clif_sealing_laws.proofs.calls.Along.{agree_along, seals}
 
 -- The second program is the first one renamed, and has items and parameters in blocks with renamed names alone.

@@ -7,10 +7,10 @@ use Rattle.clif_meaning.specs.Ledger.{Ledger, VariableState, is_marked, marked}
 use Rattle.clif_meaning.specs.Name.{Name, answer_of, same_name}
 use Rattle.clif_expansion.specs.CallsRun.{calls_track, tracked_by_call, tracked_by_calls}
 use Rattle.clif_expansion.specs.ScriptCall.{Ask, Emit, ScriptCall, ledger_of}
+use Rattle.clif_renaming.specs.CallsSealing.{calls_left, counted_as, renamed_call, unsealed_calls}
 use Rattle.clif_renaming.specs.Sealing.{name_left}
 use Rattle.clif_renaming.proofs.Places.{Follows, follows_at_first, follows_call, follows_here, follows_seal, names_apart}
 use Rattle.clif_renaming.proofs.TrackedNames.{list_any_renamed, sealing_tracks_none, tracked_both}
-use Rattle.clif_sealing_laws.specs.CallsSealing.{calls_left, counted_as, renamed_call, unsealed_calls}
 use Rattle.clif_sealing_laws.proofs.calls.Along.{seals}
 use Rattle.clif_sealing_laws.proofs.calls.Ledgers.{unsealed_ledgers}
 

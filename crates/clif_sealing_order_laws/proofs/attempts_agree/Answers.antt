@@ -1,5 +1,5 @@
-use Rattle.clif_sealing_order_laws.proofs.Verdicts
+use Rattle.clif_sealing_order_laws.proofs.PlainCalls
 use Rattle.clif_sealing_order_laws.proofs.attempts_agree.Goals as goal
 
 pub returns : goal.returns
-returns c = Verdicts.attempts_agree
+returns c = PlainCalls.attempts_agree

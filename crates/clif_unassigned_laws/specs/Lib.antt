@@ -1,0 +1,3 @@
+pub mod Unassigned
+pub mod Laws
+pub mod Examples
