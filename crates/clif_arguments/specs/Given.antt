@@ -7,11 +7,7 @@ use Rattle.clif_arguments.specs.Arguments.{Names}
 
 -- whether the call makes an instruction
 abbrev pub is_instruction : Call → Bool
-is_instruction (call.Plain instruction) = true
-is_instruction (call.Cursor instruction) = true
-is_instruction (call.Outside called) = true
-is_instruction (call.F128const bytes) = true
-is_instruction (call.Vconst ty bytes) = true
+is_instruction (call.Straight lender instruction) = true
 is_instruction (call.Jump edge) = true
 is_instruction (call.Brif condition first second) = true
 is_instruction (call.BrTable index table) = true

@@ -1,8 +1,10 @@
 //! The calls of a script, and the names of their answers.
+ghost use Rattle.std.specs.Prelude.{◌≡◌};
+
 use crate::entry::EntryCall;
 use crate::immediate::ImmediateCall;
 use crate::memory::MemoryCall;
-use crate::outside::OutsideCall;
+use crate::straight::{Lender, StraightInstruction};
 use crate::switch::SwitchEntry;
 use crate::table::{TableEdge, TableItem, ThrowingCall};
 use clif_records::Variable;
@@ -221,8 +223,8 @@ pub enum PlainInstruction {
 
 /// One call on a builder, with names in place of what earlier calls answered.
 ///
-/// Each variant but `Entry`, `Plain`, `Cursor`, `Outside`, `Immediate`, `Memory`, `Switch` and `Throwing` is the builder's method, or the
-/// instruction, of its name, and has its conditions. A variable is named by its number.
+/// Each variant but `Entry`, `Straight`, `Immediate`, `Memory`, `Switch` and `Throwing` is the builder's method, or the instruction, of
+/// its name, and has its conditions. A variable is named by its number.
 pub enum Call {
     /// `create_block()`: answers the block.
     CreateBlock,
@@ -319,13 +321,9 @@ pub enum Call {
     TryUseVar {
         variable: Variable,
     },
-    /// An instruction that neither branches nor ends a block. There is a current block that isn't filled, as for each
-    /// instruction.
-    Plain(PlainInstruction),
-    /// The same, made through `cursor()`.
-    Cursor(PlainInstruction),
-    /// An outside call, an instruction that ends no block.
-    Outside(OutsideCall),
+    /// An instruction that ends no block, made through `ins()` or `cursor()`. There is a current block that isn't filled, as for
+    /// each instruction.
+    Straight(Lender, StraightInstruction),
     /// An instruction with a constant as an operand, which makes the constant and the plain instruction: its answer 0 is the
     /// value.
     Immediate(ImmediateCall),
@@ -348,16 +346,6 @@ pub enum Call {
         branch: Name,
         from: Name,
         to: Name,
-    },
-    /// `f128const bytes`: the float with the bits that these 16 bytes make, the lowest first. It has one result.
-    F128const {
-        bytes: Vec<u8>,
-    },
-    /// `vconst.ty bytes`, at a type of vectors: the vector that these bytes make, the lowest first; there are as many as the
-    /// type has. It has one result.
-    Vconst {
-        ty: Type,
-        bytes: Vec<u8>,
     },
     /// `jump destination`, an instruction without results, which fills the block.
     Jump {
@@ -436,9 +424,7 @@ impl Drop for Call {
                 value: _,
             } => {}
             Call::TryUseVar { variable: _ } => {}
-            Call::Plain(_) => {}
-            Call::Cursor(_) => {}
-            Call::Outside(_) => {}
+            Call::Straight(_, _) => {}
             Call::Immediate(_) => {}
             Call::Memory(_) => {}
             Call::SetSrcloc { srcloc: _ } => {}
@@ -449,8 +435,6 @@ impl Drop for Call {
                 from: _,
                 to: _,
             } => {}
-            Call::F128const { bytes: _ } => {}
-            Call::Vconst { ty: _, bytes: _ } => {}
             Call::Jump { destination: _ } => {}
             Call::Brif {
                 condition: _,
@@ -467,5 +451,14 @@ impl Drop for Call {
             Call::Return { values: _ } => {}
             Call::Trap { code: _ } => {}
         }
+    }
+}
+
+impl Call {
+    /// The instruction, made through `ins()`.
+    pub fn plain(instruction: PlainInstruction) -> Call
+        ensures { result ≡ Call.Straight Lender.Ins (StraightInstruction.Plain instruction) }
+    {
+        Call::Straight(Lender::Ins, StraightInstruction::Plain(instruction))
     }
 }

@@ -8,6 +8,7 @@ mod immediate;
 mod memory;
 mod outside;
 mod plan;
+mod straight;
 mod switch;
 mod table;
 
@@ -18,5 +19,6 @@ pub use immediate::ImmediateCall;
 pub use memory::{MemoryCall, is_unsigned};
 pub use outside::OutsideCall;
 pub use plan::Plan;
+pub use straight::{Lender, StraightInstruction};
 pub use switch::SwitchEntry;
 pub use table::{Passed, TableEdge, TableItem, ThrowingCall};

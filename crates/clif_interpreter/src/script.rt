@@ -2,8 +2,8 @@
 //! variables and names of answers, and no aliases and no parameters of variables.
 use crate::premises::{check_marks, check_targets};
 use clif_calls::{
-    Call, Edge, ImmediateCall, MemoryCall, Name, OutsideCall, Passed, TableEdge, TableItem,
-    ThrowingCall,
+    Call, Edge, ImmediateCall, MemoryCall, Name, OutsideCall, Passed, StraightInstruction,
+    TableEdge, TableItem, ThrowingCall,
 };
 use clif_operations::{Fault, Operation, Outcome, Store, Typed, bits_of, carry_out, kept};
 use clif_script_program::entries::{
@@ -555,7 +555,7 @@ impl<O: Outside> State<'_, '_, '_, O> {
     // Makes what a call makes: the outside call, the try call, the pooled constant, the branch by a table, or the other
     // instruction.
     fn call(&mut self, place: usize, call: &Call) -> Result<Next, Cause> {
-        if let Call::Outside(called) = call {
+        if let Call::Straight(_, StraightInstruction::Outside(called)) = call {
             return self.call_outside(place, called);
         }
         if let Call::Throwing(called) = call {

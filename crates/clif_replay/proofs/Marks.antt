@@ -1,9 +1,9 @@
 -- Whether stack maps may be asked for a variable or a value: the ledger and the builder tell the same, and the builder's conditions
 -- hold then.
-use Rattle.std.proofs.Common.{◌≡◌, ◌<◌, ◌≤◌, ℕ, suc, List, refl, ap, arith, sym, ◌∙◌, subst}
-use Rattle.std.specs.Prelude.{◌&&◌, Bool, true, false, is_ok, is_some, not, nat_lt, map, option_map, slice_get, Option, Some, None, Result, Ok, Err}
-use Rattle.std.proofs.lemmas.Bool.{and_parts, false_from_ne_true, lt-ltb, ltb-true, not-true}
-use Rattle.std.proofs.lemmas.Option.{none-some, same_Some, slice_get-map}
+use Rattle.std.proofs.Common.{◌≡◌, ◌<◌, ℕ, List, refl, ap, arith, sym, ◌∙◌}
+use Rattle.std.specs.Prelude.{◌&&◌, Bool, true, false, is_ok, is_some, not, nat_lt, option_map, slice_get, Option, Some, None, Result, Ok, Err}
+use Rattle.std.proofs.lemmas.Bool.{and_parts, false_from_ne_true, ltb-true, not-true}
+use Rattle.std.proofs.lemmas.Option.{slice_get-map}
 use Rattle.clif_types.specs.EntitySet.{has}
 use Rattle.clif_types.specs.Signature.{SignatureShape}
 use Rattle.clif_types.specs.Types.{bytes_of}

@@ -1,13 +1,12 @@
 -- The numbers of entries: the ledger and the builder tell the same of a name.
-use Rattle.std.proofs.Common.{◌≡◌, ℕ, zero, suc, List, [], ◌∷◌, length, refl, ap, arith, sym, ◌∙◌, subst}
-use Rattle.std.specs.Prelude.{◌==◌, ◌&&◌, Bool, false, true, IfOk, is_some, map, slice_get, option_and_then, unwrap_or, Option, Some, None, Result, if◌then◌else◌}
-use Rattle.std.proofs.lemmas.Option.{slice_get_past}
+use Rattle.std.proofs.Common.{◌≡◌, ℕ, zero, suc, List, [], ◌∷◌, length, refl, ap, sym, ◌∙◌, subst}
+use Rattle.std.specs.Prelude.{◌&&◌, Bool, IfOk, map, slice_get, option_and_then, unwrap_or, Option, Some, None, Result}
 use Rattle.clif_types.specs.declared.types.«Type».{«Type»}
 use Rattle.clif_types.specs.Signature.{SignatureShape}
 use Rattle.clif_tables.specs.Lists.{TableLists}
 use Rattle.clif_ir.specs.Body.{Body}
 use Rattle.clif_meaning.specs.Acceptance.{allows, blames_variable}
-use Rattle.clif_meaning.specs.Ledger.{ABlock, AVariable, AValue, AnEdge, AnInstruction, Answered, Ledger, answer_at}
+use Rattle.clif_meaning.specs.Ledger.{ABlock, AVariable, AValue, AnEdge, Answered, Ledger}
 use Rattle.clif_meaning.specs.Request.{AnsweredCall, Request}
 use Rattle.clif_builder.specs.declared.builder.FunctionBuilder.{FunctionBuilder}
 use Rattle.clif_builder.specs.Ledger.{NamesEdges, NamesExceptions, ledger_of}
@@ -15,7 +14,6 @@ use Rattle.clif_calls.specs.declared.call.Name.{Name}
 use Rattle.clif_resolution.specs.declared.answers.Answer.{Answer}
 use Rattle.clif_resolution.specs.declared.answers.Answer.TheVariants as answer
 use Rattle.clif_resolution.specs.declared.answers.CallError.{CallError}
-use Rattle.clif_resolution.specs.declared.answers.Entry.{Entry}
 use Rattle.clif_resolution.specs.declared.answers.Entry.TheVariants as entry
 use Rattle.clif_resolution.specs.Entries.{ExceptionTables, Functions, JumpTables, NamedTable, Numbers, Signatures, StackSlots, count_in, entry_in, entry_of, number_in, numbers_at}
 use Rattle.clif_replay.specs.Entries.{count_of, entry_as, entry_named, numbers_in}

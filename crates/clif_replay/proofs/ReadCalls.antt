@@ -24,6 +24,7 @@ use Rattle.clif_calls.specs.declared.call.Edge as script
 use Rattle.clif_calls.specs.declared.call.Name.{Name}
 use Rattle.clif_calls.specs.declared.immediate.ImmediateCall.{ImmediateCall}
 use Rattle.clif_calls.specs.declared.outside.OutsideCall.TheVariants as outside
+use Rattle.clif_calls.specs.declared.straight.StraightInstruction.TheVariants as straight
 use Rattle.clif_calls.specs.declared.plan.Plan.{Plan}
 use Rattle.clif_calls.specs.declared.switch.SwitchEntry.{SwitchEntry}
 use Rattle.clif_calls.specs.declared.table.Passed.{Passed}
@@ -232,8 +233,7 @@ module _ (reading : Reading) (naming : Naming) (plain ledger : Ledger) (joined :
   asked-read numbers declared (call.UseVar variable) = refl
   asked-read numbers declared (call.TryDefVar variable value) = (refl, reads value)
   asked-read numbers declared (call.TryUseVar variable) = refl
-  asked-read numbers declared (call.Plain instruction) = plan-read numbers (plan_of instruction)
-  asked-read numbers declared (call.Cursor instruction) = plan-read numbers (plan_of instruction)
+  asked-read numbers declared (call.Straight lender (straight.Plain instruction)) = plan-read numbers (plan_of instruction)
   asked-read numbers declared (call.Immediate immediate) = (refl, tt)
   asked-read numbers declared (call.Switch entries value otherwise) = (refl, tt)
   asked-read numbers declared (call.Memory called) = (refl, names-read (helper.operands_in called))
@@ -241,8 +241,8 @@ module _ (reading : Reading) (naming : Naming) (plain ledger : Ledger) (joined :
   asked-read numbers declared call.CollectDebugInfo = (refl, tt)
   asked-read numbers declared (call.SetValLabel value label) = (refl, (reads value, tt))
   asked-read numbers declared (call.ChangeJumpDestination branch from to) = (reads branch, reads from, reads to)
-  asked-read numbers declared (call.F128const bytes) = (refl, record { operation = refl; controlling = refl; operands = tt; contexts = tt; edges = tt })
-  asked-read numbers declared (call.Vconst ty bytes) = (refl, record { operation = refl; controlling = refl; operands = tt; contexts = tt; edges = tt })
+  asked-read numbers declared (call.Straight lender (straight.F128const bytes)) = (refl, record { operation = refl; controlling = refl; operands = tt; contexts = tt; edges = tt })
+  asked-read numbers declared (call.Straight lender (straight.Vconst ty bytes)) = (refl, record { operation = refl; controlling = refl; operands = tt; contexts = tt; edges = tt })
   asked-read numbers declared (call.Jump destination) =
       (refl, record { operation = refl; controlling = refl; operands = tt; contexts = tt; edges = edges-read (destination ∷ []) })
   asked-read numbers declared (call.Brif condition block_then block_else) = (
@@ -269,7 +269,7 @@ module _ (reading : Reading) (naming : Naming) (plain ledger : Ledger) (joined :
           edges = edges;
         },
       )
-  asked-read numbers declared (call.Outside (outside.Call function args)) = (
+  asked-read numbers declared (call.Straight lender (straight.Outside (outside.Call function args))) = (
     refl,
     record {
       operation = ap (λ (tables : TableLists). meaning.Call (function_at tables (numbers Functions function)).name (signature_at tables (function_at tables (numbers Functions function)).signature)) joined.tables;
@@ -279,7 +279,7 @@ module _ (reading : Reading) (naming : Naming) (plain ledger : Ledger) (joined :
       edges = tt;
     },
   )
-  asked-read numbers declared (call.Outside (outside.CallIndirect signature callee args)) = (
+  asked-read numbers declared (call.Straight lender (straight.Outside (outside.CallIndirect signature callee args))) = (
     refl,
     record {
       operation = ap (λ (tables : TableLists). CallIndirect (signature_at tables (numbers Signatures signature))) joined.tables;

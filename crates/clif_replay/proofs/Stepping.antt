@@ -32,6 +32,7 @@ use Rattle.clif_calls.specs.declared.memory.MemoryCall.{MemoryCall}
 use Rattle.clif_calls.specs.declared.switch.SwitchEntry.{SwitchEntry}
 use Rattle.clif_memory_helpers.specs.Helpers.{helper_calls}
 use Rattle.clif_calls.specs.declared.outside.OutsideCall.TheVariants as outside
+use Rattle.clif_calls.specs.declared.straight.StraightInstruction.TheVariants as straight
 use Rattle.clif_calls.specs.declared.table.ThrowingCall.TheVariants as throwing
 use Rattle.clif_resolution.specs.declared.answers.Answer.{Answer}
 use Rattle.clif_resolution.specs.declared.condition.Condition.{Condition}
@@ -413,8 +414,11 @@ kind R config (call.Memory called) = by (moves_nothing (operation_in called)) re
     by : (none : Bool) → moves_nothing (operation_in called) ≡ none → Kind R config (call.Memory called)
     by true is = AsksOnly (call.Memory called) (nothing-asks R config called is)
     by false is = Helps called is
-kind R config (call.Outside (outside.Call function args)) = AsksOnly _ (record { call = λ declared ledger. refl; makes = λ old new answers result is. is; refused_never = λ declared ledger. refl })
-kind R config (call.Outside (outside.CallIndirect signature callee args)) = AsksOnly _ (record { call = λ declared ledger. refl; makes = λ old new answers result is. is; refused_never = λ declared ledger. refl })
+kind R config (call.Straight lender (straight.Outside (outside.Call function args))) = AsksOnly _ (record { call = λ declared ledger. refl; makes = λ old new answers result is. is; refused_never = λ declared ledger. refl })
+kind R config (call.Straight lender (straight.Outside (outside.CallIndirect signature callee args))) = AsksOnly _ (record { call = λ declared ledger. refl; makes = λ old new answers result is. is; refused_never = λ declared ledger. refl })
+kind R config (call.Straight lender (straight.Plain instruction)) = AsksOnly _ (record { call = λ declared ledger. refl; makes = λ old new answers result is. is; refused_never = λ declared ledger. refl })
+kind R config (call.Straight lender (straight.F128const bytes)) = AsksOnly _ (record { call = λ declared ledger. refl; makes = λ old new answers result is. is; refused_never = λ declared ledger. refl })
+kind R config (call.Straight lender (straight.Vconst ty bytes)) = AsksOnly _ (record { call = λ declared ledger. refl; makes = λ old new answers result is. is; refused_never = λ declared ledger. refl })
 kind R config (call.Throwing (throwing.TryCall function args table)) = AsksOnly _ (record { call = λ declared ledger. refl; makes = λ old new answers result is. is; refused_never = λ declared ledger. refl })
 kind R config (call.Throwing (throwing.TryCallIndirect callee args table)) = AsksOnly _ (record { call = λ declared ledger. refl; makes = λ old new answers result is. is; refused_never = λ declared ledger. refl })
 kind R config _ = AsksOnly _ (record { call = λ declared ledger. refl; makes = λ old new answers result is. is; refused_never = λ declared ledger. refl })

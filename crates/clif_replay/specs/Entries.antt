@@ -1,5 +1,5 @@
 -- The entries of tables that calls make and name, by their numbers. Source: own.
-use Rattle.std.specs.Prelude.{ℕ, Bool, true, false, List, length, Option, Some, None, option_and_then, unwrap_or, Result, Ok, Err}
+use Rattle.std.specs.Prelude.{ℕ, Bool, true, false, length, Option, option_and_then, unwrap_or, Result, Ok, Err}
 use Rattle.clif_types.specs.declared.error.BuildError.{BuildError}
 use Rattle.clif_tables.specs.Entries.{TableEntry, ADynamicStackSlot, AFunction, AGlobalValue, ASignature, AStackSlot}
 use Rattle.clif_tables.specs.Lists.{TableLists}

@@ -13,6 +13,8 @@ use Rattle.clif_ir.specs.Changes.{HasNoRoom}
 use Rattle.clif_calls.specs.Plan.{plan_of}
 use Rattle.clif_calls.specs.declared.outside.OutsideCall.{OutsideCall}
 use Rattle.clif_calls.specs.declared.outside.OutsideCall.TheVariants as outside
+use Rattle.clif_calls.specs.declared.straight.StraightInstruction.{StraightInstruction}
+use Rattle.clif_calls.specs.declared.straight.StraightInstruction.TheVariants as straight
 use Rattle.clif_calls.specs.declared.plan.Plan.{Plan}
 use Rattle.clif_calls.specs.declared.plan.Plan.TheVariants as plan
 use Rattle.clif_calls.specs.declared.call.Call.{Call}
@@ -56,6 +58,13 @@ abbrev pub returns_in : Numbers → TableLists → OutsideCall → List AbiParam
 returns_in numbers tables (outside.Call function args) = (signature_at tables (function_at tables (numbers Functions function)).signature).returns
 returns_in numbers tables (outside.CallIndirect signature callee args) = (signature_at tables (numbers Signatures signature)).returns
 
+-- An instruction that ends no block, with these numbers of entries.
+abbrev pub StraightMeetsFullTable : Numbers → StraightInstruction → Body → Type 0
+StraightMeetsFullTable numbers (straight.Plain instruction) f = PlanMeetsFullTable (plan_of instruction) f
+StraightMeetsFullTable numbers (straight.Outside called) f = HasNoRoom f (length (returns_in numbers f.tables called))
+StraightMeetsFullTable numbers (straight.F128const bytes) f = ConstantMeetsFullTable bytes.items f
+StraightMeetsFullTable numbers (straight.Vconst ty bytes) f = ConstantMeetsFullTable bytes.items f
+
 -- A call with these numbers of entries, made so far as it is made, meets a table that holds 2^32 - 1 entries: a call that lengthens a table finds it full,
 -- an outside call doesn't find room for all that it gives, one with a constant as an operand finds them full at one of its
 -- instructions, one that makes several parameters fills the table of values before it has made them all, and a use of a variable and a
@@ -70,14 +79,10 @@ MeetsFullTable numbers (call.DeclareVar ty) f c = length c.variables ≡ 2 ^ 32 
 MeetsFullTable numbers (call.AppendBlockParam block ty) f c = length f.values ≡ 2 ^ 32 - 1
 MeetsFullTable numbers (call.AppendBlockParamsForFunctionParams block) f c = NoRoomFor f (length f.signature.params)
 MeetsFullTable numbers (call.AppendBlockParamsForFunctionReturns block) f c = NoRoomFor f (length f.signature.returns)
-MeetsFullTable numbers (call.Plain instruction) f c = PlanMeetsFullTable (plan_of instruction) f
-MeetsFullTable numbers (call.Cursor instruction) f c = PlanMeetsFullTable (plan_of instruction) f
-MeetsFullTable numbers (call.Outside called) f c = HasNoRoom f (length (returns_in numbers f.tables called))
+MeetsFullTable numbers (call.Straight lender instruction) f c = StraightMeetsFullTable numbers instruction f
 MeetsFullTable numbers (call.Immediate called) f c = EmissionMeetsFullTable f
 MeetsFullTable numbers (call.Switch entries value otherwise) f c = Unit {0}
 MeetsFullTable numbers (call.Memory called) f c = Unit {0}
-MeetsFullTable numbers (call.F128const bytes) f c = ConstantMeetsFullTable bytes.items f
-MeetsFullTable numbers (call.Vconst ty bytes) f c = ConstantMeetsFullTable bytes.items f
 MeetsFullTable numbers (call.Jump destination) f c = IsFull f
 MeetsFullTable numbers (call.Brif condition block_then block_else) f c = IsFull f
 MeetsFullTable numbers (call.BrTable index table) f c = IsFull f

@@ -2,7 +2,7 @@
 use Rattle.std.specs.Prelude.{◌≡◌, ◌-◌, ◌^◌, ℕ, ◌&&◌, length, List, map, Bool, true, false, Some, OnOk, IfOk, Result, Err}
 use Rattle.clif_types.specs.Signature.{SignatureShape}
 use Rattle.clif_types.specs.declared.types.«Type».{«Type»}
-use Rattle.clif_ir.specs.Changes.{with_tables}
+use Rattle.clif_ir.specs.Changes.{HasNoRoom, with_tables}
 use Rattle.clif_opcodes.specs.declared.opcodes.PooledConstOpcode.{PooledConstOpcode}
 use Rattle.clif_meaning.specs.Acceptance.{allows, blames_variable, pooled_const}
 use Rattle.clif_meaning.specs.Ledger.{Ledger}
@@ -14,7 +14,9 @@ use Rattle.clif_builder.specs.Ledger.{ledger_of}
 use Rattle.clif_calls.specs.declared.table.TableItem.{TableItem}
 use Rattle.clif_calls.specs.declared.call.Call.{Call}
 use Rattle.clif_calls.specs.declared.call.Name.{Name}
+use Rattle.clif_calls.specs.declared.outside.OutsideCall.{OutsideCall}
 use Rattle.clif_calls.specs.declared.plan.Plan.{Plan}
+use Rattle.clif_calls.specs.declared.straight.StraightInstruction.{StraightInstruction}
 use Rattle.clif_resolution.specs.declared.answers.Answer.{Answer}
 use Rattle.clif_resolution.specs.declared.answers.Entry.{Entry}
 use Rattle.clif_types.specs.declared.error.BuildError.{BuildError}
@@ -23,12 +25,12 @@ use Rattle.clif_builder.specs.Entries.{MakesEntry}
 use Rattle.clif_resolution.specs.declared.condition.Condition.{Condition}
 use Rattle.clif_resolution.specs.declared.answers.CallError.{CallError}
 use Rattle.clif_resolution.specs.declared.answers.CallError.TheVariants as error
-use Rattle.clif_replay.specs.Limits.{ConstantMeetsFullTable, MeetsFullTable, PlanMeetsFullTable}
+use Rattle.clif_replay.specs.Limits.{ConstantMeetsFullTable, MeetsFullTable, PlanMeetsFullTable, StraightMeetsFullTable, returns_in}
 use Rattle.clif_replay.specs.Ready.{IsJudged, IsReady, IsReadyAfter, types_after}
 use Rattle.clif_resolution.specs.Answers.{value_of}
 use Rattle.clif_resolution.specs.Entries.{Signatures, numbers_at}
 use Rattle.clif_replay.specs.Entries.{entry_made, numbers_in}
-use Rattle.clif_replay.specs.Requests.{Naming, is_tried, item_of, request_in, request_under}
+use Rattle.clif_replay.specs.Requests.{Naming, is_tried, item_of, outside_request, request_in, request_under, straight_request}
 
 -- A call was made, which asked this under each naming, or wasn't. It is refused only if it is only tried. `Full` is told only
 -- where `Meets` holds, and variables have these types afterwards.
@@ -58,6 +60,18 @@ MakesPlan plan old new answers result =
 abbrev pub MakesConstant : {R : Type 0} → PooledConstOpcode → «Type» → List ℕ → FunctionBuilder R → FunctionBuilder R → List Answer → Result Answer CallError → Type 0
 MakesConstant opcode ty bytes old new answers result =
     Makes (λ naming declared ledger. pooled_const opcode ty bytes) false (ConstantMeetsFullTable bytes old.func.now) old.ctx.now.parts.variables old new answers result
+
+-- for an outside call
+abbrev pub MakesOutside : {R : Type 0} → OutsideCall → FunctionBuilder R → FunctionBuilder R → List Answer → Result Answer CallError → Type 0
+MakesOutside called old new answers result =
+    Makes (λ naming declared ledger. outside_request (numbers_in naming ledger) naming ledger called) false (HasNoRoom old.func.now (length (returns_in (numbers_at old.func.now answers) old.func.now.tables called)))
+    old.ctx.now.parts.variables old new answers result
+
+-- for an instruction that ends no block
+abbrev pub MakesStraight : {R : Type 0} → StraightInstruction → FunctionBuilder R → FunctionBuilder R → List Answer → Result Answer CallError → Type 0
+MakesStraight instruction old new answers result =
+    Makes (λ naming declared ledger. straight_request (numbers_in naming ledger) naming ledger instruction) false (StraightMeetsFullTable (numbers_at old.func.now answers) instruction old.func.now)
+    old.ctx.now.parts.variables old new answers result
 
 -- for an exception table of this signature, normal edge and items
 abbrev pub MakesExceptions : {R : Type 0} → Name → Name → List TableItem → FunctionBuilder R → FunctionBuilder R → List Answer → Result Answer CallError → Type 0

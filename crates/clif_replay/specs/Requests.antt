@@ -18,6 +18,8 @@ use Rattle.clif_calls.specs.declared.call.Call.{Call}
 use Rattle.clif_calls.specs.declared.call.Call.TheVariants as call
 use Rattle.clif_calls.specs.declared.outside.OutsideCall.{OutsideCall}
 use Rattle.clif_calls.specs.declared.outside.OutsideCall.TheVariants as outside
+use Rattle.clif_calls.specs.declared.straight.StraightInstruction.{StraightInstruction}
+use Rattle.clif_calls.specs.declared.straight.StraightInstruction.TheVariants as straight
 use Rattle.clif_calls.specs.declared.table.Passed.{Passed}
 use Rattle.clif_calls.specs.declared.table.Passed.TheVariants as passed
 use Rattle.clif_calls.specs.declared.table.TableEdge.{TableEdge}
@@ -76,6 +78,13 @@ abbrev pub outside_request : Numbers → Naming → Ledger → OutsideCall → R
 outside_request numbers naming ledger (outside.Call function args) = call_function ledger (numbers Functions function) (map naming args.items)
 outside_request numbers naming ledger (outside.CallIndirect signature callee args) = call_indirect ledger (numbers Signatures signature) (naming callee) (map naming args.items)
 
+-- the request of an instruction that ends no block, whichever method lends the builder for it
+abbrev pub straight_request : Numbers → Naming → Ledger → StraightInstruction → Request
+straight_request numbers naming ledger (straight.Plain instruction) = request_in numbers naming ledger (plan_of instruction)
+straight_request numbers naming ledger (straight.Outside called) = outside_request numbers naming ledger called
+straight_request numbers naming ledger (straight.F128const bytes) = pooled_const F128const Invalid bytes.items
+straight_request numbers naming ledger (straight.Vconst ty bytes) = pooled_const Vconst ty bytes.items
+
 -- the request of a call along the edges of an exception table, of what the ledger's tables hold
 abbrev pub throwing_request : Numbers → Naming → Ledger → ThrowingCall → Request
 throwing_request numbers naming ledger (throwing.TryCall function args table) =
@@ -107,15 +116,11 @@ request_with numbers naming signature ledger (call.DefVar variable value) = DefV
 request_with numbers naming signature ledger (call.UseVar variable) = UseVar variable
 request_with numbers naming signature ledger (call.TryDefVar variable value) = DefVar variable (naming value)
 request_with numbers naming signature ledger (call.TryUseVar variable) = UseVar variable
-request_with numbers naming signature ledger (call.Plain instruction) = request_in numbers naming ledger (plan_of instruction)
-request_with numbers naming signature ledger (call.Cursor instruction) = request_in numbers naming ledger (plan_of instruction)
-request_with numbers naming signature ledger (call.Outside called) = outside_request numbers naming ledger called
+request_with numbers naming signature ledger (call.Straight lender instruction) = straight_request numbers naming ledger instruction
 request_with numbers naming signature ledger (call.SetSrcloc srcloc) = Annotate false []
 request_with numbers naming signature ledger call.CollectDebugInfo = Annotate false []
 request_with numbers naming signature ledger (call.SetValLabel value label) = Annotate false (naming value ∷ [])
 request_with numbers naming signature ledger (call.ChangeJumpDestination branch from to) = ChangeJumpDestination (naming branch) (naming from) (naming to)
-request_with numbers naming signature ledger (call.F128const bytes) = pooled_const F128const Invalid bytes.items
-request_with numbers naming signature ledger (call.Vconst ty bytes) = pooled_const Vconst ty bytes.items
 request_with numbers naming signature ledger (call.Jump destination) = jump (edge_of naming destination)
 request_with numbers naming signature ledger (call.Brif condition block_then block_else) = brif ledger (naming condition) (edge_of naming block_then) (edge_of naming block_else)
 request_with numbers naming signature ledger (call.BrTable index table) = br_table ledger (naming index) (numbers JumpTables table)

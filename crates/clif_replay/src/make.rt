@@ -13,7 +13,7 @@ use crate::make_constants::make_constant;
 use crate::make_entities::make_entry;
 use crate::make_exceptions::{create_exception_table, make_throwing_call};
 use crate::make_immediate::make_immediate;
-use crate::make_instructions::{Lender, make_instruction};
+use crate::make_instructions::make_instruction;
 use crate::make_marks::{declare_value_needs_stack_map, declare_var_needs_stack_map};
 use crate::make_memory::make_memory;
 use crate::make_notes::{collect_debug_info, set_srcloc, set_val_label};
@@ -25,7 +25,7 @@ use crate::make_parameters::{
 use crate::make_switch::make_switch;
 use crate::make_tables::{block_call, br_table, create_jump_table};
 use clif_builder::{DefVariableError, FunctionBuilder};
-use clif_calls::{Call, Name, Plan};
+use clif_calls::{Call, Lender, Name, Plan, StraightInstruction};
 use clif_opcodes::PooledConstOpcode;
 use clif_records::Variable;
 use clif_resolution::{Answer, CallError, Condition, current_fault, has_current, value_named};
@@ -81,13 +81,23 @@ pub(crate) fn make_call(
         Call::UseVar { variable } => use_var(builder, answers, types, *variable),
         Call::TryDefVar { variable, value } => try_def_var(builder, answers, *variable, *value),
         Call::TryUseVar { variable } => try_use_var(builder, answers, *variable),
-        Call::Plain(instruction) => {
-            make_instruction(builder, answers, Lender::Ins, &instruction.plan())
-        }
-        Call::Cursor(instruction) => {
-            make_instruction(builder, answers, Lender::Cursor, &instruction.plan())
-        }
-        Call::Outside(called) => make_outside_call(builder, answers, called),
+        Call::Straight(lender, instruction) => match instruction {
+            StraightInstruction::Plain(plain) => {
+                make_instruction(builder, answers, *lender, &plain.plan())
+            }
+            StraightInstruction::Outside(called) => {
+                make_outside_call(builder, answers, *lender, called)
+            }
+            StraightInstruction::F128const { bytes } => {
+                let opcode = PooledConstOpcode::F128const;
+                let bytes = bytes.as_slice();
+                make_constant(builder, answers, *lender, opcode, Type::Invalid, bytes)
+            }
+            StraightInstruction::Vconst { ty, bytes } => {
+                let opcode = PooledConstOpcode::Vconst;
+                make_constant(builder, answers, *lender, opcode, *ty, bytes.as_slice())
+            }
+        },
         Call::Immediate(called) => make_immediate(builder, answers, *called),
         Call::Memory(called) => make_memory(builder, answers, config, called),
         Call::SetSrcloc { srcloc } => set_srcloc(builder, answers, *srcloc),
@@ -95,14 +105,6 @@ pub(crate) fn make_call(
         Call::SetValLabel { value, label } => set_val_label(builder, answers, *value, *label),
         Call::ChangeJumpDestination { branch, from, to } => {
             change_jump_destination(builder, answers, *branch, *from, *to)
-        }
-        Call::F128const { bytes } => {
-            let opcode = PooledConstOpcode::F128const;
-            make_constant(builder, answers, opcode, Type::Invalid, bytes.as_slice())
-        }
-        Call::Vconst { ty, bytes } => {
-            let opcode = PooledConstOpcode::Vconst;
-            make_constant(builder, answers, opcode, *ty, bytes.as_slice())
         }
         Call::Jump { destination } => {
             make_instruction(builder, answers, Lender::Ins, &Plan::Jump { destination })

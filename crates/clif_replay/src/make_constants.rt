@@ -7,8 +7,9 @@ ghost use Rattle.clif_builder.specs.Entries.{PoolsConstant};
 ghost use Rattle.clif_replay.specs.Makes.{MakesConstant};
 ghost use Rattle.clif_replay.specs.Ready.{IsSound};
 
-use crate::make_instructions::{Lender, append};
+use crate::make_instructions::append;
 use clif_builder::{FunctionBuilder, InstBuilderBase};
+use clif_calls::Lender;
 use clif_ir::InstructionData;
 use clif_opcodes::{Demand, Opcode, PooledConstOpcode};
 use clif_resolution::{Answer, CallError, Condition, current_fault, has_current};
@@ -19,6 +20,7 @@ use clif_types::{BuildError, Constant, Type};
 pub(crate) fn make_constant(
     builder: &mut FunctionBuilder<'_>,
     answers: &[Answer],
+    lender: Lender,
     opcode: PooledConstOpcode,
     ty: Type,
     bytes: &[u8],
@@ -33,18 +35,25 @@ pub(crate) fn make_constant(
     if !has_bytes(opcode, ty, bytes) {
         return Err(CallError::Misuse(bytes_fault(opcode, ty, bytes)));
     }
-    let constant = pool(builder, bytes)?;
+    let constant = pool(builder, lender, bytes)?;
     let shape = InstructionData::UnaryConst { opcode, constant };
-    let inst = append(builder, Lender::Ins, shape, ty)?;
+    let inst = append(builder, lender, shape, ty)?;
     Ok(Answer::Inst(inst))
 }
 
 // The constant of these bytes.
-fn pool(builder: &mut FunctionBuilder<'_>, bytes: &[u8]) -> Result<Constant, BuildError>
+fn pool(
+    builder: &mut FunctionBuilder<'_>,
+    lender: Lender,
+    bytes: &[u8],
+) -> Result<Constant, BuildError>
     requires { HasCurrent builder.old }
     ensures { PoolsConstant builder.old builder.new bytes.now result }
 {
-    builder.ins().pool_constant(bytes)
+    match lender {
+        Lender::Ins => builder.ins().pool_constant(bytes),
+        Lender::Cursor => builder.cursor().pool_constant(bytes),
+    }
 }
 
 // Whether these are as many bytes as the type of the constant has.

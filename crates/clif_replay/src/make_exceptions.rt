@@ -5,10 +5,10 @@ ghost use Rattle.clif_builder.specs.Entries.{MayServeTry, TakesExceptionTable};
 ghost use Rattle.clif_replay.specs.Makes.{MakesCall, MakesExceptions};
 ghost use Rattle.clif_replay.specs.Ready.{IsSound};
 
-use crate::make_instructions::{Lender, append};
+use crate::make_instructions::append;
 use clif_builder::laws::{requests_ask_for_their_shapes, table_calls_add_nothing};
 use clif_builder::{FunctionBuilder, InstBuilderBase};
-use clif_calls::{Call, Name, TableItem, ThrowingCall};
+use clif_calls::{Call, Lender, Name, TableItem, ThrowingCall};
 use clif_ir::{ExceptionTableData, ExceptionTargets};
 use clif_resolution::{
     Answer, CallError, Condition, Entry, edge_copied, has_signature, items_found, operands_found,

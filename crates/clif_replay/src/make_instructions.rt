@@ -8,17 +8,10 @@ ghost use Rattle.clif_replay.specs.Makes.{MakesPlan};
 ghost use Rattle.clif_replay.specs.Ready.{IsSound};
 
 use clif_builder::{FunctionBuilder, InstBuilderBase};
-use clif_calls::Plan;
+use clif_calls::{Lender, Plan};
 use clif_ir::InstructionData;
 use clif_resolution::{Answer, CallError, plan_found};
 use clif_types::{BuildError, Inst, Type};
-
-// The method that lends the builder for an instruction.
-#[derive(Clone, Copy)]
-pub(crate) enum Lender {
-    Ins,
-    Cursor,
-}
 
 // An instruction of this plan, in a current unfilled block.
 pub(crate) fn make_instruction(

@@ -1,7 +1,10 @@
 //! The instructions of scripts, by their parts.
 use crate::entries::{JumpEdges, edge_named, edges_served};
 use clif_access_plans::{ComparePlan, MovePlan, plan_compare, plan_move};
-use clif_calls::{Call, Edge, ImmediateCall, MemoryCall, Name, Plan, SwitchEntry, is_unsigned};
+use clif_calls::{
+    Call, Edge, ImmediateCall, MemoryCall, Name, Plan, StraightInstruction, SwitchEntry,
+    is_unsigned,
+};
 use clif_opcodes::PooledConstOpcode;
 use clif_operations::arithmetic::bits_of_bytes;
 use clif_operations::{ByteOperation, Operation, Promise, WithConstant};
@@ -138,7 +141,7 @@ pub fn branch_by_table(edges: usize, index: &Name) -> Instruction<'_> {
 /// The instruction that a call makes, by its format.
 pub fn plan_of(call: &Call) -> Option<Plan<'_>> {
     match call {
-        Call::Plain(instruction) | Call::Cursor(instruction) => Some(instruction.plan()),
+        Call::Straight(_, instruction) => straight_plan_of(instruction),
         Call::Jump { destination } => Some(Plan::Jump { destination }),
         Call::Brif {
             condition,
@@ -161,13 +164,28 @@ pub fn plan_of(call: &Call) -> Option<Plan<'_>> {
     }
 }
 
+// The same of an instruction that ends no block, where all of it but its values is in the call.
+fn straight_plan_of(instruction: &StraightInstruction) -> Option<Plan<'_>> {
+    match instruction {
+        StraightInstruction::Plain(plain) => Some(plain.plan()),
+        StraightInstruction::Outside(_)
+        | StraightInstruction::F128const { .. }
+        | StraightInstruction::Vconst { .. } => None,
+    }
+}
+
 /// The pooled constant that a call makes, as an instruction.
 pub fn constant_of<'c>(call: &'c Call) -> Option<Instruction<'c>> {
     let operands: &'c [Name] = &[];
-    let (opcode, given, bytes) = match call {
-        Call::F128const { bytes } => (PooledConstOpcode::F128const, Type::Invalid, bytes),
-        Call::Vconst { ty, bytes } => (PooledConstOpcode::Vconst, *ty, bytes),
-        _ => return None,
+    let Call::Straight(_, instruction) = call else {
+        return None;
+    };
+    let (opcode, given, bytes) = match instruction {
+        StraightInstruction::F128const { bytes } => {
+            (PooledConstOpcode::F128const, Type::Invalid, bytes)
+        }
+        StraightInstruction::Vconst { ty, bytes } => (PooledConstOpcode::Vconst, *ty, bytes),
+        StraightInstruction::Plain(_) | StraightInstruction::Outside(_) => return None,
     };
     Some(Instruction {
         operation: Operation::PooledConst(opcode, bits_of_bytes(bytes.as_slice())),
@@ -275,12 +293,9 @@ fn compared_access(int_cc: IntCC, size: u64, flags: MemFlagsData) -> u8 {
     }
 }
 
-/// How many results the instruction of a call has, if it makes one.
-pub fn result_count(call: &Call) -> usize {
-    let Some(plan) = plan_of(call) else {
-        return 0;
-    };
-    let operation = instruction_of(&plan, &[]).operation;
+/// How many results the instruction of this plan has.
+pub fn result_count(plan: &Plan<'_>) -> usize {
+    let operation = instruction_of(plan, &[]).operation;
     operation.opcode().typing().results.len()
 }
 

@@ -4,7 +4,7 @@ use crate::entries::called_by;
 use crate::instruction::{result_count, targets_of};
 use crate::switches::Switches;
 use crate::tracking::Tracking;
-use clif_calls::{Call, EntryCall, MemoryCall, Name, SwitchEntry};
+use clif_calls::{Call, EntryCall, MemoryCall, Name, StraightInstruction, SwitchEntry};
 use clif_types::{AbiParam, Signature, Type};
 use std::alloc::{AllocError, Global};
 
@@ -191,12 +191,8 @@ impl Program {
             Call::DefVar { .. } | Call::TryDefVar { .. } => self.add_item(place, false),
             Call::UseVar { .. }
             | Call::TryUseVar { .. }
-            | Call::Plain(_)
-            | Call::Cursor(_)
-            | Call::Outside(_)
-            | Call::Immediate(_)
-            | Call::F128const { .. }
-            | Call::Vconst { .. } => {
+            | Call::Straight(_, _)
+            | Call::Immediate(_) => {
                 self.put_into_layout();
                 self.add_item(place, false)
             }
@@ -314,17 +310,24 @@ impl Program {
     }
 }
 
-// How many answers a call has: an instruction answers itself and then its results.
+// How many answers an instruction that ends no block has: it answers itself and then its results.
+fn straight_answer_count(calls: &[Call], instruction: &StraightInstruction) -> usize {
+    match instruction {
+        StraightInstruction::Plain(plain) => result_count(&plain.plan()).saturating_add(1),
+        StraightInstruction::Outside(called) => match called_by(calls, called) {
+            Some(signature) => signature.returns.len().saturating_add(1),
+            None => 1,
+        },
+        StraightInstruction::F128const { .. } | StraightInstruction::Vconst { .. } => 2,
+    }
+}
+
+// How many answers a call has.
 fn answer_count(calls: &[Call], call: &Call, signature: &Signature) -> usize {
     match call {
         Call::AppendBlockParamsForFunctionParams { .. } => signature.params.len(),
         Call::AppendBlockParamsForFunctionReturns { .. } => signature.returns.len(),
-        Call::Plain(_) | Call::Cursor(_) => result_count(call).saturating_add(1),
-        Call::Outside(called) => match called_by(calls, called) {
-            Some(signature) => signature.returns.len().saturating_add(1),
-            None => 1,
-        },
-        Call::F128const { .. } | Call::Vconst { .. } => 2,
+        Call::Straight(_, instruction) => straight_answer_count(calls, instruction),
         Call::Memory(called) => usize::from(called.result().is_some()),
         Call::AppendBlockParam { .. }
         | Call::UseVar { .. }

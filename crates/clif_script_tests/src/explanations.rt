@@ -24,8 +24,8 @@ const ROWS: &[(&str, &str)] = &[
         "column 1: found `@1`, expected a name\n",
     ),
     (
-        "cursor f128const 0x00",
-        "column 8: found `f128const`, expected an instruction for cursor\n",
+        "cursor jump b",
+        "column 8: found `jump`, expected an instruction for cursor\n",
     ),
     (
         "conv fast\nconv tail",

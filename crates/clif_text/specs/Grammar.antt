@@ -17,6 +17,9 @@ use Rattle.clif_calls.specs.declared.memory.MemoryCall.{MemoryCall}
 use Rattle.clif_calls.specs.declared.memory.MemoryCall.TheVariants as memory
 use Rattle.clif_calls.specs.declared.outside.OutsideCall.{OutsideCall}
 use Rattle.clif_calls.specs.declared.outside.OutsideCall.TheVariants as outside
+use Rattle.clif_calls.specs.declared.straight.Lender.TheVariants as lender
+use Rattle.clif_calls.specs.declared.straight.StraightInstruction.{StraightInstruction}
+use Rattle.clif_calls.specs.declared.straight.StraightInstruction.TheVariants as straight
 use Rattle.clif_calls.specs.declared.table.ThrowingCall.{ThrowingCall}
 use Rattle.clif_calls.specs.declared.table.ThrowingCall.TheVariants as throwing
 use Rattle.clif_calls.specs.Plan.{plan_of}
@@ -79,6 +82,13 @@ IsOutside names words (outside.CallIndirect signature callee args) =
     (s p : List ℕ) × (v : List (List ℕ)) × (words ≡ codes "call_indirect" ∷ s ∷ p ∷ v)
     × IsAnswer names s signature × IsAnswer names p callee × AreLast names v args.items
 
+-- The words stand for an instruction that ends no block.
+abbrev pub IsStraight : Names → List (List ℕ) → StraightInstruction → Type 0
+IsStraight names words (straight.Plain instruction) = IsPlain names words (plan_of instruction)
+IsStraight names words (straight.Outside called) = IsOutside names words called
+IsStraight names words (straight.F128const bytes) = (n : List ℕ) × (words ≡ codes "f128const" ∷ n ∷ []) × IsBytes n bytes.items
+IsStraight names words (straight.Vconst ty bytes) = (t n : List ℕ) × (words ≡ (codes "vconst." ++ t) ∷ n ∷ []) × IsTypeWord t ty × IsBytes n bytes.items
+
 -- The words stand for an instruction with a constant as an operand: its name, its condition if it has one, a value and a number.
 abbrev pub IsImmediate : Names → List (List ℕ) → ImmediateCall → Type 0
 IsImmediate names words (immediate.IaddImmS x imm) = (a n : List ℕ) × (words ≡ codes "iadd_imm_s" ∷ a ∷ n ∷ []) × IsAnswer names a x × IsNumber n imm
@@ -136,9 +146,8 @@ IsCall names words (call.DefVar variable value) = (a b : List ℕ) × (words ≡
 IsCall names words (call.UseVar variable) = (a : List ℕ) × (words ≡ codes "use_var" ∷ a ∷ []) × IsVariable names a variable
 IsCall names words (call.TryDefVar variable value) = (a b : List ℕ) × (words ≡ codes "try_def_var" ∷ a ∷ b ∷ []) × IsVariable names a variable × IsAnswer names b value
 IsCall names words (call.TryUseVar variable) = (a : List ℕ) × (words ≡ codes "try_use_var" ∷ a ∷ []) × IsVariable names a variable
-IsCall names words (call.Plain instruction) = IsPlain names words (plan_of instruction)
-IsCall names words (call.Cursor instruction) = (i : List (List ℕ)) × (words ≡ codes "cursor" ∷ i) × IsPlain names i (plan_of instruction)
-IsCall names words (call.Outside called) = IsOutside names words called
+IsCall names words (call.Straight lender.Ins instruction) = IsStraight names words instruction
+IsCall names words (call.Straight lender.Cursor instruction) = (i : List (List ℕ)) × (words ≡ codes "cursor" ∷ i) × IsStraight names i instruction
 IsCall names words (call.Immediate called) = IsImmediate names words called
 IsCall names words (call.Memory called) = IsMemory names words called
 IsCall names words (call.SetSrcloc srcloc) = (n : List ℕ) × (words ≡ codes "set_srcloc" ∷ n ∷ []) × IsMagnitude n srcloc
@@ -146,8 +155,6 @@ IsCall names words call.CollectDebugInfo = words ≡ codes "collect_debug_info" 
 IsCall names words (call.SetValLabel value label) = (a n : List ℕ) × (words ≡ codes "set_val_label" ∷ a ∷ n ∷ []) × IsAnswer names a value × IsMagnitude n label
 IsCall names words (call.ChangeJumpDestination branch from to) =
     (i a b : List ℕ) × (words ≡ codes "change_jump_destination" ∷ i ∷ a ∷ b ∷ []) × IsInst names i branch × IsAnswer names a from × IsAnswer names b to
-IsCall names words (call.F128const bytes) = (n : List ℕ) × (words ≡ codes "f128const" ∷ n ∷ []) × IsBytes n bytes.items
-IsCall names words (call.Vconst ty bytes) = (t n : List ℕ) × (words ≡ (codes "vconst." ++ t) ∷ n ∷ []) × IsTypeWord t ty × IsBytes n bytes.items
 IsCall names words (call.Jump edge) = (e : List (List ℕ)) × (words ≡ codes "jump" ∷ e) × IsLastEdge names e edge
 IsCall names words (call.Brif condition first second) = (a : List ℕ) × (e f : List (List ℕ)) × (words ≡ codes "brif" ∷ a ∷ (e ++ f)) × IsAnswer names a condition × IsEdge names e first × IsLastEdge names f second
 IsCall names words (call.BrTable index table) = (a t : List ℕ) × (words ≡ codes "br_table" ∷ a ∷ t ∷ []) × IsAnswer names a index × IsAnswer names t table

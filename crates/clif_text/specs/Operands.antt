@@ -1,8 +1,8 @@
 -- The text behind the name of a call. Source: own; docs/SCRIPTS.md describes the format.
 use Rattle.std.specs.Prelude.{List, [], ◌++◌, ℕ, codes}
 use Rattle.std.specs.Fmt.{decimal}
-use Rattle.clif_types.specs.Texts.{bytes_text, type_text}
-use Rattle.clif_text.specs.Texts.{answer_text, answers_text, entry_text, immediate_text, items_text, memory_text, outside_text, plan_text, switch_cases_text, table_edge_text, throwing_text, variable_text}
+use Rattle.clif_types.specs.Texts.{type_text}
+use Rattle.clif_text.specs.Texts.{answer_text, answers_text, entry_text, immediate_text, items_text, memory_text, plan_text, straight_text, switch_cases_text, table_edge_text, throwing_text, variable_text}
 use Rattle.clif_text.specs.declared.writer.Operands.{Operands}
 use Rattle.clif_text.specs.declared.writer.Operands.TheVariants as operands
 
@@ -18,14 +18,12 @@ operands_text (operands.«Type» ty) = codes " " ++ type_text ty
 operands_text (operands.Entry entry) = entry_text entry.now
 operands_text (operands.Definition variable x) = codes " " ++ (variable_text variable ++ (codes " " ++ answer_text x))
 operands_text (operands.Variable variable) = codes " " ++ variable_text variable
-operands_text (operands.Bytes bytes) = codes " " ++ bytes_text bytes.now
-operands_text (operands.TypedBytes ty bytes) = codes "." ++ (type_text ty ++ (codes " " ++ bytes_text bytes.now))
 operands_text (operands.Edge edge) = codes " " ++ table_edge_text edge.now
 operands_text (operands.Table default entries) = codes " " ++ (answer_text default ++ answers_text entries.now)
 operands_text (operands.Exceptions signature normal items) =
     codes " " ++ (answer_text signature ++ (codes " " ++ (answer_text normal ++ items_text items.now)))
 operands_text (operands.Branch index table) = codes " " ++ (answer_text index ++ (codes " " ++ answer_text table))
-operands_text (operands.Outside called) = outside_text called.now
+operands_text (operands.Straight instruction) = straight_text instruction.now
 operands_text (operands.Immediate called) = immediate_text called
 operands_text (operands.Memory called) = memory_text called
 operands_text (operands.Switch value otherwise entries) =

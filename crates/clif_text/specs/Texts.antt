@@ -28,6 +28,10 @@ use Rattle.clif_calls.specs.declared.memory.MemoryCall.{MemoryCall}
 use Rattle.clif_calls.specs.declared.memory.MemoryCall.TheVariants as memory
 use Rattle.clif_calls.specs.declared.outside.OutsideCall.{OutsideCall}
 use Rattle.clif_calls.specs.declared.outside.OutsideCall.TheVariants as outside
+use Rattle.clif_calls.specs.declared.straight.Lender.{Lender}
+use Rattle.clif_calls.specs.declared.straight.Lender.TheVariants as lender
+use Rattle.clif_calls.specs.declared.straight.StraightInstruction.{StraightInstruction}
+use Rattle.clif_calls.specs.declared.straight.StraightInstruction.TheVariants as straight
 use Rattle.clif_calls.specs.declared.table.Passed.{Passed}
 use Rattle.clif_calls.specs.declared.table.Passed.TheVariants as passed
 use Rattle.clif_calls.specs.declared.table.TableEdge.{TableEdge}
@@ -182,6 +186,18 @@ throwing_text (throwing.TryCall function args table) = codes "try_call " ++ (ans
 throwing_text (throwing.TryCallIndirect callee args table) =
     codes "try_call_indirect " ++ (answer_text callee ++ (arguments_text args.items ++ (codes " " ++ answer_text table)))
 
+-- an instruction that ends no block
+abbrev pub straight_text : StraightInstruction → List ℕ
+straight_text (straight.Plain instruction) = plan_text (plan_of instruction)
+straight_text (straight.Outside called) = outside_text called
+straight_text (straight.F128const bytes) = codes "f128const " ++ bytes_text bytes.items
+straight_text (straight.Vconst ty bytes) = codes "vconst." ++ (type_text ty ++ (codes " " ++ bytes_text bytes.items))
+
+-- the word before it, where it isn't made through `ins`
+abbrev pub lender_text : Lender → List ℕ
+lender_text lender.Ins = []
+lender_text lender.Cursor = codes "cursor "
+
 abbrev pub call_text : Call → List ℕ
 call_text call.CreateBlock = codes "create_block"
 call_text (call.SwitchToBlock block) = codes "switch_to_block " ++ answer_text block
@@ -205,9 +221,7 @@ call_text (call.DefVar variable value) = codes "def_var " ++ (variable_text vari
 call_text (call.UseVar variable) = codes "use_var " ++ variable_text variable
 call_text (call.TryDefVar variable value) = codes "try_def_var " ++ (variable_text variable ++ (codes " " ++ answer_text value))
 call_text (call.TryUseVar variable) = codes "try_use_var " ++ variable_text variable
-call_text (call.Plain instruction) = plan_text (plan_of instruction)
-call_text (call.Cursor instruction) = codes "cursor " ++ plan_text (plan_of instruction)
-call_text (call.Outside called) = outside_text called
+call_text (call.Straight lender instruction) = lender_text lender ++ straight_text instruction
 call_text (call.Immediate called) = immediate_text called
 call_text (call.Memory called) = memory_text called
 call_text (call.SetSrcloc srcloc) = codes "set_srcloc " ++ decimal srcloc
@@ -215,8 +229,6 @@ call_text call.CollectDebugInfo = codes "collect_debug_info"
 call_text (call.SetValLabel value label) = codes "set_val_label " ++ (answer_text value ++ (codes " " ++ decimal label))
 call_text (call.ChangeJumpDestination branch from to) =
     codes "change_jump_destination " ++ (answer_text branch ++ (codes " " ++ (answer_text from ++ (codes " " ++ answer_text to))))
-call_text (call.F128const bytes) = codes "f128const " ++ bytes_text bytes.items
-call_text (call.Vconst ty bytes) = codes "vconst." ++ (type_text ty ++ (codes " " ++ bytes_text bytes.items))
 call_text (call.Jump edge) = codes "jump " ++ edge_text edge
 call_text (call.Brif condition first second) = codes "brif " ++ (answer_text condition ++ (codes " " ++ (edge_text first ++ (codes " " ++ edge_text second))))
 call_text (call.BrTable index table) = codes "br_table " ++ (answer_text index ++ (codes " " ++ answer_text table))

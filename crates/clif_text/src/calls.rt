@@ -3,7 +3,7 @@ ghost use Rattle.std.specs.Prelude.{◌≡◌, ◌++◌, IfOk, IfSome, codes};
 ghost use Rattle.clif_words.specs.Cursor.{texts, words_left};
 ghost use Rattle.clif_arguments.specs.Given.{is_instruction};
 ghost use Rattle.clif_text.specs.Grammar.{IsCall};
-ghost use Rattle.clif_text.specs.Reading.{ReadsCall};
+ghost use Rattle.clif_text.specs.Reading.{ReadsCall, ReadsStraight};
 ghost use Rattle.clif_arguments.specs.Scope.{names_of};
 ghost use Rattle.clif_arguments.specs.Taking.{names_in};
 
@@ -16,7 +16,7 @@ use crate::switch::read_switch_call;
 use crate::throwing::read_throwing_call;
 use clif_arguments::args::Args;
 use clif_arguments::scope::Scope;
-use clif_calls::{Call, PlainInstruction};
+use clif_calls::{Call, Lender, PlainInstruction, StraightInstruction};
 use clif_types::SourceLoc;
 use clif_words::error::{Expected, Fault, LineError};
 use std::alloc::Global;
@@ -81,7 +81,6 @@ fn read_call<'a>(
         "trap" => Ok(Call::Trap {
             code: args.trap_code()?,
         }),
-        "call" | "call_indirect" => read_outside_call(alloc, head, args),
         "iadd_imm_s" | "icmp_imm_s" => read_immediate_call(head, args),
         "switch" => read_switch_call(alloc, head, args),
         "call_memcpy"
@@ -97,7 +96,20 @@ fn read_call<'a>(
         "set_srcloc" | "collect_debug_info" | "set_val_label" => read_note_call(head, args),
         "change_jump_destination" => read_change_call(head, args),
         "cursor" => read_cursor_call(alloc, head, args),
-        _ => read_instruction(alloc, head, args),
+        "create_block"
+        | "seal_all_blocks"
+        | "ensure_inserted_block"
+        | "switch_to_block"
+        | "seal_block"
+        | "insert_block_after"
+        | "set_cold_block"
+        | "append_block_param"
+        | "append_block_params_for_function_params"
+        | "append_block_params_for_function_returns" => read_block_call(head, args),
+        _ => {
+            let instruction = read_straight(alloc, head, args)?;
+            Ok(Call::Straight(Lender::Ins, instruction))
+        }
     }
 }
 
@@ -132,7 +144,7 @@ fn read_change_call<'a>(head: &'a str, args: &mut Args<'_, 'a>) -> Result<Call, 
     Ok(Call::ChangeJumpDestination { branch, from, to })
 }
 
-// The same for `cursor`, which has an instruction behind it that neither branches nor ends its block.
+// The same for `cursor`, which has an instruction behind it that ends no block.
 fn read_cursor_call<'a>(
     alloc: Global,
     head: &'a str,
@@ -142,13 +154,9 @@ fn read_cursor_call<'a>(
     ensures { IfOk result (ReadsCall args.old args.new head.now) }
 {
     let name = args.head()?;
-    let call = match read_instruction(alloc, name, args) {
-        Ok(call) => call,
-        Err(error) => return Err(behind_cursor(error)),
-    };
-    match &call {
-        Call::Plain(instruction) => Ok(Call::Cursor(*instruction)),
-        _ => Err(LineError::Fault(Fault::NotForCursor(name))),
+    match read_straight(alloc, name, args) {
+        Ok(instruction) => Ok(Call::Straight(Lender::Cursor, instruction)),
+        Err(error) => Err(behind_cursor(error)),
     }
 }
 
@@ -160,20 +168,19 @@ fn behind_cursor(error: LineError<'_>) -> LineError<'_> {
     }
 }
 
-// The same for an instruction that neither branches nor ends its block: its name stands alone, or has a type behind it, as
-// `iconst.i32`.
-fn read_instruction<'a>(
+// The instruction that ends no block with this name, which stands alone or has a type behind it, as `iconst.i32`.
+fn read_straight<'a>(
     alloc: Global,
     head: &'a str,
     args: &mut Args<'_, 'a>,
-) -> Result<Call, LineError<'a>>
-    ensures { IfOk result (ReadsCall args.old args.new head.now) }
+) -> Result<StraightInstruction, LineError<'a>>
+    ensures { IfOk result (ReadsStraight args.old args.new head.now) }
 {
     if let Some(opcode) = opcode_named(head) {
         return read_untyped_call(alloc, head, opcode, args);
     }
     let Some((name, suffix)) = name_and_type(head) else {
-        return read_block_call(head, args);
+        return read_outside_call(alloc, head, args);
     };
     match opcode_named(name) {
         Some(opcode) => read_typed_call(alloc, head, opcode, suffix, args),
@@ -315,21 +322,28 @@ pub(crate) fn answers_of(call: &Call) -> Answers
         | Call::SetValLabel { .. }
         | Call::ChangeJumpDestination { .. }
         | Call::Switch { .. } => (false, 0),
-        Call::Plain(instruction) | Call::Cursor(instruction) => (true, result_count(instruction)),
+        Call::Straight(_, instruction) => (true, result_count(instruction)),
         Call::Jump { .. }
         | Call::Brif { .. }
         | Call::BrTable { .. }
         | Call::Throwing(_)
         | Call::Return { .. }
         | Call::Trap { .. } => (true, 0),
-        Call::F128const { .. } | Call::Vconst { .. } => (true, 1),
-        Call::Outside(_) => (true, usize::MAX),
     };
     Answers { instruction, names }
 }
 
-// How many results an instruction has.
-fn result_count(instruction: &PlainInstruction) -> usize {
+// How many results an instruction has. How many a signature returns isn't known here: its line may come later.
+fn result_count(instruction: &StraightInstruction) -> usize {
+    match instruction {
+        StraightInstruction::Plain(plain) => plain_result_count(plain),
+        StraightInstruction::F128const { .. } | StraightInstruction::Vconst { .. } => 1,
+        StraightInstruction::Outside(_) => usize::MAX,
+    }
+}
+
+// How many results a plain instruction has.
+fn plain_result_count(instruction: &PlainInstruction) -> usize {
     match instruction {
         PlainInstruction::Store { .. }
         | PlainInstruction::StackStore { .. }

@@ -1,11 +1,11 @@
 //! Instructions that neither branch nor end their block: their names, and what follows these, by format.
 ghost use Rattle.std.specs.Prelude.{◌≡◌, ◌++◌, IfOk, IfSome, codes};
 ghost use Rattle.clif_opcodes.specs.Names.{binary_name, cond_trap_name, convert_name, float_const_name, opcode_name, stack_name, unary_name};
-ghost use Rattle.clif_text.specs.Reading.{ReadsCall};
+ghost use Rattle.clif_text.specs.Reading.{ReadsStraight};
 
 use clif_arguments::args::Args;
 use clif_arguments::refusals::unknown_type;
-use clif_calls::{Call, PlainInstruction};
+use clif_calls::{PlainInstruction, StraightInstruction};
 use clif_opcodes::{
     BinaryOpcode, CondTrapOpcode, ConvertOpcode, FloatConstOpcode, Opcode, PooledConstOpcode,
     StackOpcode, UnaryOpcode,
@@ -72,9 +72,9 @@ pub(crate) fn read_untyped_call<'a>(
     head: &'a str,
     opcode: Opcode,
     args: &mut Args<'_, 'a>,
-) -> Result<Call, LineError<'a>>
+) -> Result<StraightInstruction, LineError<'a>>
     requires { head.now ≡ opcode_name opcode }
-    ensures { IfOk result (ReadsCall args.old args.new head.now) }
+    ensures { IfOk result (ReadsStraight args.old args.new head.now) }
 {
     match opcode {
         Opcode::Unary(opcode) => read_unary_call(head, opcode, args),
@@ -101,9 +101,9 @@ pub(crate) fn read_typed_call<'a>(
     opcode: Opcode,
     suffix: &'a str,
     args: &mut Args<'_, 'a>,
-) -> Result<Call, LineError<'a>>
+) -> Result<StraightInstruction, LineError<'a>>
     requires { head.now ≡ opcode_name opcode ++ (codes "." ++ suffix.now) }
-    ensures { IfOk result (ReadsCall args.old args.new head.now) }
+    ensures { IfOk result (ReadsStraight args.old args.new head.now) }
 {
     match opcode {
         Opcode::Iconst => read_iconst_call(head, suffix, args),
@@ -122,15 +122,15 @@ fn read_iconst_call<'a>(
     head: &'a str,
     suffix: &'a str,
     args: &mut Args<'_, 'a>,
-) -> Result<Call, LineError<'a>>
+) -> Result<StraightInstruction, LineError<'a>>
     requires { head.now ≡ codes "iconst" ++ (codes "." ++ suffix.now) }
-    ensures { IfOk result (ReadsCall args.old args.new head.now) }
+    ensures { IfOk result (ReadsStraight args.old args.new head.now) }
 {
     let Some(ty) = type_named(suffix) else {
         return Err(unknown_type(suffix, Expected::Type));
     };
     let imm = args.number()?;
-    Ok(Call::Plain(PlainInstruction::Iconst { ty, imm }))
+    Ok(StraightInstruction::Plain(PlainInstruction::Iconst { ty, imm }))
 }
 
 // The call with this name, an instruction of one value.
@@ -138,12 +138,12 @@ fn read_unary_call<'a>(
     head: &'a str,
     opcode: UnaryOpcode,
     args: &mut Args<'_, 'a>,
-) -> Result<Call, LineError<'a>>
+) -> Result<StraightInstruction, LineError<'a>>
     requires { head.now ≡ unary_name opcode }
-    ensures { IfOk result (ReadsCall args.old args.new head.now) }
+    ensures { IfOk result (ReadsStraight args.old args.new head.now) }
 {
     let x = args.value()?;
-    Ok(Call::Plain(PlainInstruction::unary(opcode, x)))
+    Ok(StraightInstruction::Plain(PlainInstruction::unary(opcode, x)))
 }
 
 // The same for an instruction of two values.
@@ -151,50 +151,62 @@ fn read_binary_call<'a>(
     head: &'a str,
     opcode: BinaryOpcode,
     args: &mut Args<'_, 'a>,
-) -> Result<Call, LineError<'a>>
+) -> Result<StraightInstruction, LineError<'a>>
     requires { head.now ≡ binary_name opcode }
-    ensures { IfOk result (ReadsCall args.old args.new head.now) }
+    ensures { IfOk result (ReadsStraight args.old args.new head.now) }
 {
     let (x, y) = args.two_values()?;
-    Ok(Call::Plain(PlainInstruction::binary(opcode, x, y)))
+    Ok(StraightInstruction::Plain(PlainInstruction::binary(opcode, x, y)))
 }
 
 // The same for `iconcat`.
-fn read_iconcat_call<'a>(head: &'a str, args: &mut Args<'_, 'a>) -> Result<Call, LineError<'a>>
+fn read_iconcat_call<'a>(
+    head: &'a str,
+    args: &mut Args<'_, 'a>,
+) -> Result<StraightInstruction, LineError<'a>>
     requires { head.now ≡ codes "iconcat" }
-    ensures { IfOk result (ReadsCall args.old args.new head.now) }
+    ensures { IfOk result (ReadsStraight args.old args.new head.now) }
 {
     let (x, y) = args.two_values()?;
-    Ok(Call::Plain(PlainInstruction::Iconcat { x, y }))
+    Ok(StraightInstruction::Plain(PlainInstruction::Iconcat { x, y }))
 }
 
 // The same for `isplit`.
-fn read_isplit_call<'a>(head: &'a str, args: &mut Args<'_, 'a>) -> Result<Call, LineError<'a>>
+fn read_isplit_call<'a>(
+    head: &'a str,
+    args: &mut Args<'_, 'a>,
+) -> Result<StraightInstruction, LineError<'a>>
     requires { head.now ≡ codes "isplit" }
-    ensures { IfOk result (ReadsCall args.old args.new head.now) }
+    ensures { IfOk result (ReadsStraight args.old args.new head.now) }
 {
     let x = args.value()?;
-    Ok(Call::Plain(PlainInstruction::Isplit { x }))
+    Ok(StraightInstruction::Plain(PlainInstruction::Isplit { x }))
 }
 
 // The same for `icmp`.
-fn read_icmp_call<'a>(head: &'a str, args: &mut Args<'_, 'a>) -> Result<Call, LineError<'a>>
+fn read_icmp_call<'a>(
+    head: &'a str,
+    args: &mut Args<'_, 'a>,
+) -> Result<StraightInstruction, LineError<'a>>
     requires { head.now ≡ codes "icmp" }
-    ensures { IfOk result (ReadsCall args.old args.new head.now) }
+    ensures { IfOk result (ReadsStraight args.old args.new head.now) }
 {
     let cond = args.condition()?;
     let (x, y) = args.two_values()?;
-    Ok(Call::Plain(PlainInstruction::Icmp { cond, x, y }))
+    Ok(StraightInstruction::Plain(PlainInstruction::Icmp { cond, x, y }))
 }
 
 // The same for `select`.
-fn read_select_call<'a>(head: &'a str, args: &mut Args<'_, 'a>) -> Result<Call, LineError<'a>>
+fn read_select_call<'a>(
+    head: &'a str,
+    args: &mut Args<'_, 'a>,
+) -> Result<StraightInstruction, LineError<'a>>
     requires { head.now ≡ codes "select" }
-    ensures { IfOk result (ReadsCall args.old args.new head.now) }
+    ensures { IfOk result (ReadsStraight args.old args.new head.now) }
 {
     let c = args.value()?;
     let (x, y) = args.two_values()?;
-    Ok(Call::Plain(PlainInstruction::Select { c, x, y }))
+    Ok(StraightInstruction::Plain(PlainInstruction::Select { c, x, y }))
 }
 
 // The same for an instruction of one value, whose name is followed by its result type.
@@ -203,15 +215,15 @@ fn read_convert_call<'a>(
     opcode: ConvertOpcode,
     suffix: &'a str,
     args: &mut Args<'_, 'a>,
-) -> Result<Call, LineError<'a>>
+) -> Result<StraightInstruction, LineError<'a>>
     requires { head.now ≡ convert_name opcode ++ (codes "." ++ suffix.now) }
-    ensures { IfOk result (ReadsCall args.old args.new head.now) }
+    ensures { IfOk result (ReadsStraight args.old args.new head.now) }
 {
     let Some(ty) = type_named(suffix) else {
         return Err(unknown_type(suffix, Expected::Type));
     };
     let x = args.value()?;
-    Ok(Call::Plain(PlainInstruction::convert(opcode, ty, x)))
+    Ok(StraightInstruction::Plain(PlainInstruction::convert(opcode, ty, x)))
 }
 
 // The bits of a constant with this opcode, where they should stand.
@@ -228,14 +240,14 @@ fn read_float_const_call<'a>(
     head: &'a str,
     opcode: FloatConstOpcode,
     args: &mut Args<'_, 'a>,
-) -> Result<Call, LineError<'a>>
+) -> Result<StraightInstruction, LineError<'a>>
     requires { head.now ≡ float_const_name opcode }
-    ensures { IfOk result (ReadsCall args.old args.new head.now) }
+    ensures { IfOk result (ReadsStraight args.old args.new head.now) }
 {
     let expected = bits_of(opcode);
     let bits = args.magnitude(expected)?;
     match PlainInstruction::float_const(opcode, bits) {
-        Some(constant) => Ok(Call::Plain(constant)),
+        Some(constant) => Ok(StraightInstruction::Plain(constant)),
         None => Err(LineError::wanted(expected)),
     }
 }
@@ -245,12 +257,12 @@ fn read_f128const_call<'a>(
     alloc: Global,
     head: &'a str,
     args: &mut Args<'_, 'a>,
-) -> Result<Call, LineError<'a>>
+) -> Result<StraightInstruction, LineError<'a>>
     requires { head.now ≡ codes "f128const" }
-    ensures { IfOk result (ReadsCall args.old args.new head.now) }
+    ensures { IfOk result (ReadsStraight args.old args.new head.now) }
 {
     let bytes = args.bytes(alloc)?;
-    Ok(Call::F128const { bytes })
+    Ok(StraightInstruction::F128const { bytes })
 }
 
 // The same for `vconst`, whose name is followed by its result type.
@@ -259,15 +271,15 @@ fn read_vconst_call<'a>(
     head: &'a str,
     suffix: &'a str,
     args: &mut Args<'_, 'a>,
-) -> Result<Call, LineError<'a>>
+) -> Result<StraightInstruction, LineError<'a>>
     requires { head.now ≡ codes "vconst" ++ (codes "." ++ suffix.now) }
-    ensures { IfOk result (ReadsCall args.old args.new head.now) }
+    ensures { IfOk result (ReadsStraight args.old args.new head.now) }
 {
     let Some(ty) = type_named(suffix) else {
         return Err(unknown_type(suffix, Expected::Type));
     };
     let bytes = args.bytes(alloc)?;
-    Ok(Call::Vconst { ty, bytes })
+    Ok(StraightInstruction::Vconst { ty, bytes })
 }
 
 // The same for `load`, whose name is followed by the type of what is loaded.
@@ -275,9 +287,9 @@ fn read_load_call<'a>(
     head: &'a str,
     suffix: &'a str,
     args: &mut Args<'_, 'a>,
-) -> Result<Call, LineError<'a>>
+) -> Result<StraightInstruction, LineError<'a>>
     requires { head.now ≡ codes "load" ++ (codes "." ++ suffix.now) }
-    ensures { IfOk result (ReadsCall args.old args.new head.now) }
+    ensures { IfOk result (ReadsStraight args.old args.new head.now) }
 {
     let Some(ty) = type_named(suffix) else {
         return Err(unknown_type(suffix, Expected::Type));
@@ -285,7 +297,7 @@ fn read_load_call<'a>(
     let flags = args.flags();
     let p = args.value()?;
     let offset = args.last_offset()?;
-    Ok(Call::Plain(PlainInstruction::Load {
+    Ok(StraightInstruction::Plain(PlainInstruction::Load {
         ty,
         flags,
         p,
@@ -294,14 +306,17 @@ fn read_load_call<'a>(
 }
 
 // The same for `store`.
-fn read_store_call<'a>(head: &'a str, args: &mut Args<'_, 'a>) -> Result<Call, LineError<'a>>
+fn read_store_call<'a>(
+    head: &'a str,
+    args: &mut Args<'_, 'a>,
+) -> Result<StraightInstruction, LineError<'a>>
     requires { head.now ≡ codes "store" }
-    ensures { IfOk result (ReadsCall args.old args.new head.now) }
+    ensures { IfOk result (ReadsStraight args.old args.new head.now) }
 {
     let flags = args.flags();
     let (x, p) = args.two_values()?;
     let offset = args.last_offset()?;
-    Ok(Call::Plain(PlainInstruction::Store {
+    Ok(StraightInstruction::Plain(PlainInstruction::Store {
         flags,
         x,
         p,
@@ -315,27 +330,30 @@ fn read_stack_call<'a>(
     opcode: StackOpcode,
     suffix: &'a str,
     args: &mut Args<'_, 'a>,
-) -> Result<Call, LineError<'a>>
+) -> Result<StraightInstruction, LineError<'a>>
     requires { head.now ≡ stack_name opcode ++ (codes "." ++ suffix.now) }
-    ensures { IfOk result (ReadsCall args.old args.new head.now) }
+    ensures { IfOk result (ReadsStraight args.old args.new head.now) }
 {
     let Some(ty) = type_named(suffix) else {
         return Err(unknown_type(suffix, Expected::Type));
     };
     let slot = args.slot()?;
     let offset = args.last_offset()?;
-    Ok(Call::Plain(PlainInstruction::stack(opcode, ty, slot, offset)))
+    Ok(StraightInstruction::Plain(PlainInstruction::stack(opcode, ty, slot, offset)))
 }
 
 // The same for `stack_store`.
-fn read_stack_store_call<'a>(head: &'a str, args: &mut Args<'_, 'a>) -> Result<Call, LineError<'a>>
+fn read_stack_store_call<'a>(
+    head: &'a str,
+    args: &mut Args<'_, 'a>,
+) -> Result<StraightInstruction, LineError<'a>>
     requires { head.now ≡ codes "stack_store" }
-    ensures { IfOk result (ReadsCall args.old args.new head.now) }
+    ensures { IfOk result (ReadsStraight args.old args.new head.now) }
 {
     let x = args.value()?;
     let slot = args.slot()?;
     let offset = args.last_offset()?;
-    Ok(Call::Plain(PlainInstruction::StackStore { x, slot, offset }))
+    Ok(StraightInstruction::Plain(PlainInstruction::StackStore { x, slot, offset }))
 }
 
 // The same for a trap under a condition.
@@ -343,11 +361,11 @@ fn read_cond_trap_call<'a>(
     head: &'a str,
     opcode: CondTrapOpcode,
     args: &mut Args<'_, 'a>,
-) -> Result<Call, LineError<'a>>
+) -> Result<StraightInstruction, LineError<'a>>
     requires { head.now ≡ cond_trap_name opcode }
-    ensures { IfOk result (ReadsCall args.old args.new head.now) }
+    ensures { IfOk result (ReadsStraight args.old args.new head.now) }
 {
     let c = args.value()?;
     let code = args.trap_code()?;
-    Ok(Call::Plain(PlainInstruction::cond_trap(opcode, c, code)))
+    Ok(StraightInstruction::Plain(PlainInstruction::cond_trap(opcode, c, code)))
 }

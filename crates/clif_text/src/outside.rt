@@ -1,9 +1,9 @@
 //! Outside calls.
 ghost use Rattle.std.specs.Prelude.{IfOk};
-ghost use Rattle.clif_text.specs.Reading.{ReadsCall};
+ghost use Rattle.clif_text.specs.Reading.{ReadsStraight};
 
 use clif_arguments::args::Args;
-use clif_calls::{Call, OutsideCall};
+use clif_calls::{OutsideCall, StraightInstruction};
 use clif_words::error::{Fault, LineError};
 use std::alloc::Global;
 
@@ -12,15 +12,15 @@ pub(crate) fn read_outside_call<'a>(
     alloc: Global,
     head: &'a str,
     args: &mut Args<'_, 'a>,
-) -> Result<Call, LineError<'a>>
-    ensures { IfOk result (ReadsCall args.old args.new head.now) }
+) -> Result<StraightInstruction, LineError<'a>>
+    ensures { IfOk result (ReadsStraight args.old args.new head.now) }
 {
     match head {
-        "call" => Ok(Call::Outside(OutsideCall::Call {
+        "call" => Ok(StraightInstruction::Outside(OutsideCall::Call {
             function: args.function()?,
             args: args.last_values(alloc)?,
         })),
-        "call_indirect" => Ok(Call::Outside(OutsideCall::CallIndirect {
+        "call_indirect" => Ok(StraightInstruction::Outside(OutsideCall::CallIndirect {
             signature: args.signature()?,
             callee: args.value()?,
             args: args.last_values(alloc)?,

@@ -1,13 +1,13 @@
 //! Scripts as text, written.
 ghost use Rattle.std.specs.Prelude.{◌≡◌, ◌++◌, Some, IfOk, string_bytes};
-ghost use Rattle.clif_text.specs.Texts.{answer_text, answers_text, argument_text, passed_text, edge_text, entry_text, global_text, immediate_text, imported_name_text, imported_text, item_text, items_text, memory_text, offset_text, outside_text, arguments_text, plan_text, switch_case_text, switch_cases_text, table_edge_text, throwing_text, call_text, calls_text, header_text};
+ghost use Rattle.clif_text.specs.Texts.{answer_text, answers_text, argument_text, passed_text, edge_text, entry_text, global_text, immediate_text, imported_name_text, imported_text, item_text, items_text, lender_text, memory_text, offset_text, outside_text, arguments_text, plan_text, straight_text, switch_case_text, switch_cases_text, table_edge_text, throwing_text, call_text, calls_text, header_text};
 ghost use Rattle.clif_text.specs.Operands.{operands_text};
 ghost use Rattle.clif_words.specs.Spelling.{overlap_word};
 
 use crate::memory::library_call_name;
 use clif_calls::{
-    Call, Edge, EntryCall, ImmediateCall, ImportedFunction, MemoryCall, Name, OutsideCall, Passed,
-    Plan, SwitchEntry, TableEdge, TableItem, ThrowingCall,
+    Call, Edge, EntryCall, ImmediateCall, ImportedFunction, Lender, MemoryCall, Name, OutsideCall,
+    Passed, Plan, StraightInstruction, SwitchEntry, TableEdge, TableItem, ThrowingCall,
 };
 use clif_records::Variable;
 use clif_types::{
@@ -504,8 +504,39 @@ impl fmt::Display for ThrowingText<'_> {
     }
 }
 
-// What is written behind the name of a call, or, of an instruction, an entry, an outside call, a memory helper or an instruction with
-// a constant, with its name.
+// An instruction that ends no block, with its name.
+#[derive(Clone, Copy)]
+struct StraightText<'a>(&'a StraightInstruction);
+
+impl fmt::Display for StraightText<'_> {
+    ghost output = { λ text. Some (straight_text text.0.now) };
+
+    fn fmt<W: fmt::Write>(&self, f: &mut fmt::Formatter<W>) -> fmt::Result {
+        match self.0 {
+            StraightInstruction::Plain(plain) => write!(f, "{}", PlanText(&plain.plan())),
+            StraightInstruction::Outside(called) => write!(f, "{}", OutsideText(called)),
+            StraightInstruction::F128const { bytes } => {
+                write!(f, "f128const {}", HexBytes(bytes.as_slice()))
+            }
+            StraightInstruction::Vconst { ty, bytes } => {
+                write!(f, "vconst.{ty} {}", HexBytes(bytes.as_slice()))
+            }
+        }
+    }
+}
+
+// The word before an instruction, by the builder's method that lends it.
+fn lender_word(lender: Lender) -> &'static str
+    ensures { result.now ≡ lender_text lender }
+{
+    match lender {
+        Lender::Ins => "",
+        Lender::Cursor => "cursor ",
+    }
+}
+
+// What is written behind the name of a call, or, of an instruction, an entry, a memory helper or an instruction with a constant, with
+// its name.
 #[derive(Clone, Copy)]
 enum Operands<'a> {
     None,
@@ -517,13 +548,11 @@ enum Operands<'a> {
     Entry(&'a EntryCall),
     Definition(Variable, Name),
     Variable(Variable),
-    Bytes(&'a [u8]),
-    TypedBytes(Type, &'a [u8]),
     Edge(&'a TableEdge),
     Table(Name, &'a [Name]),
     Exceptions(Name, Name, &'a [TableItem]),
     Branch(Name, Name),
-    Outside(&'a OutsideCall),
+    Straight(&'a StraightInstruction),
     Immediate(ImmediateCall),
     Memory(MemoryCall),
     Switch(Name, Name, &'a [SwitchEntry]),
@@ -550,8 +579,6 @@ impl fmt::Display for Operands<'_> {
             Operands::Entry(entry) => write!(f, "{}", EntryText(entry)),
             Operands::Definition(variable, x) => write!(f, " {variable} {}", AnswerText(*x)),
             Operands::Variable(variable) => write!(f, " {variable}"),
-            Operands::Bytes(bytes) => write!(f, " {}", HexBytes(bytes)),
-            Operands::TypedBytes(ty, bytes) => write!(f, ".{ty} {}", HexBytes(bytes)),
             Operands::Edge(edge) => write!(f, " {}", TableEdgeText(edge)),
             Operands::Table(default, entries) => {
                 write!(f, " {}{}", AnswerText(*default), AnswersText(entries))
@@ -563,7 +590,7 @@ impl fmt::Display for Operands<'_> {
             Operands::Branch(index, table) => {
                 write!(f, " {} {}", AnswerText(*index), AnswerText(*table))
             }
-            Operands::Outside(called) => write!(f, "{}", OutsideText(called)),
+            Operands::Straight(instruction) => write!(f, "{}", StraightText(instruction)),
             Operands::Immediate(called) => write!(f, "{}", ImmediateText(*called)),
             Operands::Memory(called) => write!(f, "{}", MemoryText(*called)),
             Operands::Switch(value, otherwise, entries) => {
@@ -634,9 +661,9 @@ fn parts(call: &Call) -> (&'static str, Operands<'_>)
             Operands::Definition(*variable, *value),
         ),
         Call::TryUseVar { variable } => ("try_use_var", Operands::Variable(*variable)),
-        Call::Plain(instruction) => ("", Operands::Instruction(instruction.plan())),
-        Call::Cursor(instruction) => ("cursor ", Operands::Instruction(instruction.plan())),
-        Call::Outside(called) => ("", Operands::Outside(called)),
+        Call::Straight(lender, instruction) => {
+            (lender_word(*lender), Operands::Straight(instruction))
+        }
         Call::Immediate(called) => ("", Operands::Immediate(*called)),
         Call::Memory(called) => ("", Operands::Memory(*called)),
         Call::SetSrcloc { srcloc } => ("set_srcloc", Operands::Number(srcloc.bits())),
@@ -649,8 +676,6 @@ fn parts(call: &Call) -> (&'static str, Operands<'_>)
             "change_jump_destination",
             Operands::Change(*branch, *from, *to),
         ),
-        Call::F128const { bytes } => ("f128const", Operands::Bytes(bytes.as_slice())),
-        Call::Vconst { ty, bytes } => ("vconst", Operands::TypedBytes(*ty, bytes.as_slice())),
         Call::Jump { destination } => ("", Operands::Instruction(Plan::Jump { destination })),
         Call::Brif {
             condition,

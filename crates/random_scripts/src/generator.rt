@@ -115,7 +115,7 @@ impl Generator {
 
     // Makes an instruction with one result; answers that.
     fn instruction(&mut self, instruction: PlainInstruction) -> Result<Name, AllocError> {
-        let name = self.call(Call::Plain(instruction))?;
+        let name = self.call(Call::plain(instruction))?;
         let place = name.place;
         Ok(Name { place, answer: 1 })
     }
@@ -209,7 +209,7 @@ impl Generator {
         let value = self.instruction(PlainInstruction::Isub { x, y })?;
         self.call(Call::DefVar { variable, value })?;
         let code = TrapCode::User(1);
-        self.call(Call::Plain(PlainInstruction::Trapz { c: value, code }))?;
+        self.call(Call::plain(PlainInstruction::Trapz { c: value, code }))?;
         Ok(())
     }
 

@@ -2,7 +2,9 @@
 use super::marks::Given;
 use super::{Generator, VARIABLES};
 use crate::worlds::START;
-use clif_calls::{Call, ImmediateCall, Name, OutsideCall, PlainInstruction};
+use clif_calls::{
+    Call, ImmediateCall, Lender, Name, OutsideCall, PlainInstruction, StraightInstruction,
+};
 use clif_records::Variable;
 use clif_types::types::I64;
 use clif_types::{IntCC, MemFlagsData};
@@ -151,7 +153,9 @@ impl Generator {
 
     // A call, whose two results may be named.
     fn outside(&mut self, call: OutsideCall) -> Result<(), AllocError> {
-        let place = self.call(Call::Outside(call))?.place;
+        let place = self
+            .call(Call::Straight(Lender::Ins, StraightInstruction::Outside(call)))?
+            .place;
         self.give(Name { place, answer: 1 })?;
         self.give(Name { place, answer: 2 })
     }
@@ -176,7 +180,7 @@ impl Generator {
     fn store(&mut self) -> Result<(), AllocError> {
         let p = self.address()?;
         let x = self.value();
-        self.call(Call::Plain(PlainInstruction::Store {
+        self.call(Call::plain(PlainInstruction::Store {
             flags: MemFlagsData::new(),
             x,
             p,

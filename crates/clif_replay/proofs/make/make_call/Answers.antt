@@ -7,9 +7,10 @@ use Rattle.clif_meaning.specs.Acceptance.{return_}
 use Rattle.clif_calls.specs.declared.call.Name.{Name}
 use Rattle.clif_calls.specs.declared.table.TableItem.{TableItem}
 use Rattle.clif_calls.specs.declared.plan.Plan.{Plan}
+use Rattle.clif_calls.specs.declared.straight.StraightInstruction.{StraightInstruction}
 use Rattle.clif_calls.specs.declared.call.Call.{Call}
 use Rattle.clif_replay.specs.Emits.{MakesScriptCall}
-use Rattle.clif_replay.specs.Makes.{Makes, MakesConstant, MakesExceptions, MakesTable, MakesPlan}
+use Rattle.clif_replay.specs.Makes.{Makes, MakesConstant, MakesExceptions, MakesPlan, MakesStraight, MakesTable}
 use Rattle.clif_replay.proofs.make.make_call.Goals as goal
 
 pub returns-in-CreateBlock : goal.returns-in-CreateBlock
@@ -83,17 +84,30 @@ returns-in-TryUseVar g c = subst (λ (x : Call). MakesScriptCall c.args.config x
 pub returns-in-Plain : goal.returns-in-Plain
 returns-in-Plain g c =
     let new = c.make_instruction.new.builder in
-    subst (λ (x : Call). MakesScriptCall c.args.config x c.args.builder.now new c.args.answers.now c.make_instruction.result) (sym c.in-Plain.is)
-    (subst (λ (p : Plan). MakesPlan p c.args.builder.now new c.args.answers.now c.make_instruction.result) c.plan.ensures c.make_instruction.ensures)
-
-pub returns-in-Cursor : goal.returns-in-Cursor
-returns-in-Cursor g c =
-    let new = c.make_instruction-in-Cursor.new.builder in
-    subst (λ (x : Call). MakesScriptCall c.args.config x c.args.builder.now new c.args.answers.now c.make_instruction-in-Cursor.result) (sym c.in-Cursor.is)
-    (subst (λ (p : Plan). MakesPlan p c.args.builder.now new c.args.answers.now c.make_instruction-in-Cursor.result) c.plan-in-Cursor.ensures c.make_instruction-in-Cursor.ensures)
+    subst (λ (x : Call). MakesScriptCall c.args.config x c.args.builder.now new c.args.answers.now c.make_instruction.result) (sym c.in-Straight.is)
+    (subst (λ (s : StraightInstruction). MakesStraight s c.args.builder.now new c.args.answers.now c.make_instruction.result) (sym c.in-Plain.is)
+    (subst (λ (p : Plan). MakesPlan p c.args.builder.now new c.args.answers.now c.make_instruction.result) c.plan.ensures c.make_instruction.ensures))
 
 pub returns-in-Outside : goal.returns-in-Outside
-returns-in-Outside g c = subst (λ (x : Call). MakesScriptCall c.args.config x c.args.builder.now c.make_outside_call.new.builder c.args.answers.now c.make_outside_call.result) (sym c.in-Outside.is) c.make_outside_call.ensures
+returns-in-Outside g c =
+    let new = c.make_outside_call.new.builder in
+    subst (λ (x : Call). MakesScriptCall c.args.config x c.args.builder.now new c.args.answers.now c.make_outside_call.result) (sym c.in-Straight.is)
+    (subst (λ (s : StraightInstruction). MakesStraight s c.args.builder.now new c.args.answers.now c.make_outside_call.result) (sym c.in-Outside.is) c.make_outside_call.ensures)
+
+pub returns-in-F128const : goal.returns-in-F128const
+returns-in-F128const g c =
+    let new = c.make_constant.new.builder in
+    subst (λ (x : Call). MakesScriptCall c.args.config x c.args.builder.now new c.args.answers.now c.make_constant.result) (sym c.in-Straight.is)
+    (subst (λ (s : StraightInstruction). MakesStraight s c.args.builder.now new c.args.answers.now c.make_constant.result) (sym c.in-F128const.is)
+    (subst (λ (bytes : List ℕ). MakesConstant F128const Invalid bytes c.args.builder.now new c.args.answers.now c.make_constant.result) c.as_slice-bytes.ensures.value c.make_constant.ensures))
+
+pub returns-in-Vconst : goal.returns-in-Vconst
+returns-in-Vconst g c =
+    let new = c.make_constant-in-Vconst.new.builder in
+    subst (λ (x : Call). MakesScriptCall c.args.config x c.args.builder.now new c.args.answers.now c.make_constant-in-Vconst.result) (sym c.in-Straight.is)
+    (subst (λ (s : StraightInstruction). MakesStraight s c.args.builder.now new c.args.answers.now c.make_constant-in-Vconst.result) (sym c.in-Vconst.is)
+    (subst (λ (bytes : List ℕ). MakesConstant Vconst c.in-Vconst.ty bytes c.args.builder.now new c.args.answers.now c.make_constant-in-Vconst.result) c.as_slice-in-Vconst.ensures.value
+    c.make_constant-in-Vconst.ensures))
 
 pub returns-in-SetSrcloc : goal.returns-in-SetSrcloc
 returns-in-SetSrcloc g c = subst (λ (x : Call). MakesScriptCall c.args.config x c.args.builder.now c.set_srcloc.new.builder c.args.answers.now c.set_srcloc.result) (sym c.in-SetSrcloc.is) c.set_srcloc.ensures.made
@@ -106,19 +120,6 @@ returns-in-SetValLabel g c = subst (λ (x : Call). MakesScriptCall c.args.config
 
 pub returns-in-ChangeJumpDestination : goal.returns-in-ChangeJumpDestination
 returns-in-ChangeJumpDestination g c = subst (λ (x : Call). MakesScriptCall c.args.config x c.args.builder.now c.change_jump_destination.new.builder c.args.answers.now c.change_jump_destination.result) (sym c.in-ChangeJumpDestination.is) c.change_jump_destination.ensures
-
-pub returns-in-F128const : goal.returns-in-F128const
-returns-in-F128const g c =
-    let new = c.make_constant.new.builder in
-    subst (λ (x : Call). MakesScriptCall c.args.config x c.args.builder.now new c.args.answers.now c.make_constant.result) (sym c.in-F128const.is)
-    (subst (λ (bytes : List ℕ). MakesConstant F128const Invalid bytes c.args.builder.now new c.args.answers.now c.make_constant.result) c.as_slice-in-F128const.ensures.value c.make_constant.ensures)
-
-pub returns-in-Vconst : goal.returns-in-Vconst
-returns-in-Vconst g c =
-    let new = c.make_constant-in-Vconst.new.builder in
-    subst (λ (x : Call). MakesScriptCall c.args.config x c.args.builder.now new c.args.answers.now c.make_constant-in-Vconst.result) (sym c.in-Vconst.is)
-    (subst (λ (bytes : List ℕ). MakesConstant Vconst c.in-Vconst.ty bytes c.args.builder.now new c.args.answers.now c.make_constant-in-Vconst.result) c.as_slice-in-Vconst.ensures.value
-    c.make_constant-in-Vconst.ensures)
 
 pub returns-in-Jump : goal.returns-in-Jump
 returns-in-Jump g c = subst (λ (x : Call). MakesScriptCall c.args.config x c.args.builder.now c.make_instruction-in-Jump.new.builder c.args.answers.now c.make_instruction-in-Jump.result) (sym c.in-Jump.is) c.make_instruction-in-Jump.ensures

@@ -13,7 +13,6 @@ use Rattle.clif_resolution.specs.Entries.{numbers_at}
 use Rattle.clif_resolution.specs.declared.answers.Answer.TheVariants as answer
 use Rattle.clif_resolution.specs.declared.answers.Entry.{Entry}
 use Rattle.clif_replay.specs.Entries.{entry_as, entry_in, entry_new}
-use Rattle.clif_replay.specs.Makes.{AppendsEntry}
 use Rattle.clif_replay.specs.Ready.{AnswerIs}
 use Rattle.clif_replay.proofs.Entries.{entry-answered, entry-same, failed-entry, made-entry, same-table}
 use Rattle.clif_replay.proofs.Making.{answered-sound, made-answer, made-misused, made-refused}
