@@ -109,7 +109,7 @@ fn execute_function<O: io::Write, E: io::Write>(
     let given = Given {
         arguments: arguments.as_slice(),
         answers: program.answers.as_slice(),
-        moves: None,
+        moves: program.moves,
         pointer_width: PointerWidth::U64,
         options: run.options,
     };

@@ -22,6 +22,10 @@ pub enum Fault<'a> {
     Unknown(&'a str),
     /// A function, or a parameter, that is there already.
     Twice(&'a str),
+    /// What a variable of references gets is the value of one of numbers.
+    NoReference(&'a str),
+    /// What a variable of numbers gets is the value of one of references.
+    NoNumber(&'a str),
     /// A call with another number of arguments than the function has parameters.
     Arguments {
         name: &'a str,
@@ -47,6 +51,11 @@ impl fmt::Display for Fault<'_> {
             Fault::Undeclared(name) => write!(f, "the variable {name} isn't declared"),
             Fault::Unknown(name) => write!(f, "there is no function {name}"),
             Fault::Twice(name) => write!(f, "{name} is there already"),
+            Fault::NoReference(name) => write!(
+                f,
+                "expected a reference for {name}, found a number"
+            ),
+            Fault::NoNumber(name) => write!(f, "expected a number for {name}, found a reference"),
             Fault::Arguments {
                 name,
                 wanted,

@@ -8,7 +8,7 @@
 //! call       = function "(" [expression {"," expression}] ")"
 //! ```
 use crate::error::{Fault, ToyError};
-use crate::function::Compiler;
+use crate::function::{Compiler, Value};
 use crate::tokens::{is_name, is_number};
 use clif_calls::{Name, PlainInstruction};
 use clif_types::IntCC;
@@ -70,34 +70,35 @@ fn relation(word: &str) -> Option<IntCC> {
 impl<'t, 'a> Compiler<'t, 'a> {
     /// An expression; brackets may be nested so deeply. A comparison gives 1 where it holds, and else 0.
     #[cycle(expression)]
-    pub(crate) fn expression(&mut self, depth: u32) -> Result<Name, ToyError<'a>> {
+    pub(crate) fn expression(&mut self, depth: u32) -> Result<Value, ToyError<'a>> {
         let x = self.chain(depth, Level::Sum)?;
         let Some(cond) = relation(self.parser.peek()) else {
             return Ok(x);
         };
         self.parser.take();
-        let y = self.chain(depth, Level::Sum)?;
+        let y = self.chain(depth, Level::Sum)?.name;
+        let x = x.name;
         let x = self.plain(PlainInstruction::Icmp { cond, x, y });
-        Ok(self.plain(PlainInstruction::Uextend { ty: I64, x }))
+        Ok(Value::computed(self.plain(PlainInstruction::Uextend { ty: I64, x })))
     }
 
     // Operands of one level with its operators between them.
     #[cycle(expression)]
-    fn chain(&mut self, depth: u32, level: Level) -> Result<Name, ToyError<'a>> {
+    fn chain(&mut self, depth: u32, level: Level) -> Result<Value, ToyError<'a>> {
         let mut value = self.operand(depth, level)?;
         for _ in 0..self.parser.left() {
             let Some(found) = operator_named(level, self.parser.peek()) else {
                 return Ok(value);
             };
             self.parser.take();
-            let other = self.operand(depth, level)?;
-            value = self.plain(instruction(found, value, other));
+            let other = self.operand(depth, level)?.name;
+            value = Value::computed(self.plain(instruction(found, value.name, other)));
         }
         Ok(value)
     }
 
     #[cycle(expression)]
-    fn operand(&mut self, depth: u32, level: Level) -> Result<Name, ToyError<'a>> {
+    fn operand(&mut self, depth: u32, level: Level) -> Result<Value, ToyError<'a>> {
         match level {
             Level::Sum => self.chain(depth, Level::Product),
             Level::Product => self.factor(depth),
@@ -105,16 +106,16 @@ impl<'t, 'a> Compiler<'t, 'a> {
     }
 
     #[cycle(expression)]
-    fn factor(&mut self, depth: u32) -> Result<Name, ToyError<'a>> {
+    fn factor(&mut self, depth: u32) -> Result<Value, ToyError<'a>> {
         if !self.parser.skips("-") {
             return self.primary(depth);
         }
-        let x = self.primary(depth)?;
-        Ok(self.plain(PlainInstruction::Ineg { x }))
+        let x = self.primary(depth)?.name;
+        Ok(Value::computed(self.plain(PlainInstruction::Ineg { x })))
     }
 
     #[cycle(expression)]
-    fn primary(&mut self, depth: u32) -> Result<Name, ToyError<'a>> {
+    fn primary(&mut self, depth: u32) -> Result<Value, ToyError<'a>> {
         let word = self.parser.peek();
         if is_number(word) {
             return self.number(word);
@@ -134,22 +135,25 @@ impl<'t, 'a> Compiler<'t, 'a> {
     }
 
     // A number, which is the next word.
-    fn number(&mut self, word: &'a str) -> Result<Name, ToyError<'a>> {
+    fn number(&mut self, word: &'a str) -> Result<Value, ToyError<'a>> {
         let Ok(imm) = word.parse() else {
             return Err(self.parser.fault(Fault::Number));
         };
         self.parser.take();
-        Ok(self.plain(PlainInstruction::Iconst { ty: I64, imm }))
+        Ok(Value::computed(self.plain(PlainInstruction::Iconst { ty: I64, imm })))
     }
 
     // The value of a variable, or of a call, whose name is the next word.
     #[cycle(expression)]
-    fn named(&mut self, depth: u32) -> Result<Name, ToyError<'a>> {
+    fn named(&mut self, depth: u32) -> Result<Value, ToyError<'a>> {
         let place = self.parser.place();
         let name = self.parser.take();
         if !self.parser.skips("(") {
             return match self.find(name) {
-                Some(variable) => Ok(self.use_variable(variable)),
+                Some(local) => Ok(Value {
+                    name: self.use_variable(local.variable),
+                    kind: Some(local.kind),
+                }),
                 None => Err(ToyError::at(place, Fault::Undeclared(name))),
             };
         }
@@ -169,7 +173,7 @@ impl<'t, 'a> Compiler<'t, 'a> {
             };
             return Err(ToyError::at(place, fault));
         }
-        self.call_function(name, args)
+        Ok(Value::computed(self.call_function(name, args)?))
     }
 
     // The arguments of a call, up to the bracket behind them.
@@ -180,7 +184,7 @@ impl<'t, 'a> Compiler<'t, 'a> {
             return Ok(args);
         }
         for _ in 0..self.parser.left() {
-            let value = self.expression(depth)?;
+            let value = self.expression(depth)?.name;
             args.push(value)?;
             if self.parser.skips(")") {
                 return Ok(args);

@@ -1,18 +1,47 @@
 //! The calls that build one function, as the parser makes them.
 use crate::error::{Fault, ToyError};
 use crate::parser::Parser;
-use crate::program::{Header, signature_of};
-use clif_calls::{Call, Edge, EntryCall, ImportedFunction, Name, OutsideCall, PlainInstruction};
+use crate::program::{Header, Parameter, signature_of};
+use clif_calls::{
+    Call, Edge, EntryCall, ImportedFunction, Lender, Name, OutsideCall, PlainInstruction,
+    StraightInstruction,
+};
 use clif_records::Variable;
 use clif_types::ExternalName;
 use clif_types::types::I64;
 use std::alloc::Global;
 
+/// What a variable of the language holds.
+#[derive(Clone, Copy, PartialEq, Eq)]
+pub(crate) enum Kind {
+    /// A number.
+    Number,
+    /// A reference, which a collector may change at each call.
+    Reference,
+}
+
 /// A variable of the language, and the builder's that holds it.
 #[derive(Clone, Copy)]
-struct Local<'a> {
+pub(crate) struct Local<'a> {
     name: &'a str,
-    variable: Variable,
+    pub(crate) variable: Variable,
+    pub(crate) kind: Kind,
+}
+
+/// What an expression computes.
+#[derive(Clone, Copy)]
+pub(crate) struct Value {
+    /// The call that answers it.
+    pub(crate) name: Name,
+    /// What it is where it is what a variable holds. Anything else may be assigned to each variable.
+    pub(crate) kind: Option<Kind>,
+}
+
+impl Value {
+    /// What an instruction computes.
+    pub(crate) fn computed(name: Name) -> Value {
+        Value { name, kind: None }
+    }
 }
 
 // A function that was imported.
@@ -74,7 +103,7 @@ impl<'t, 'a> Compiler<'t, 'a> {
 
     /// Makes an instruction; the name is that of its result.
     pub(crate) fn plain(&mut self, instruction: PlainInstruction) -> Name {
-        let place = self.call(Call::Plain(instruction)).place;
+        let place = self.call(Call::plain(instruction)).place;
         Name { place, answer: 1 }
     }
 
@@ -99,13 +128,17 @@ impl<'t, 'a> Compiler<'t, 'a> {
     }
 
     /// Adds the function's parameters to its entry block, and a variable for each.
-    pub(crate) fn enter_function(&mut self, parameters: &[&'a str]) -> Result<(), ToyError<'a>> {
+    pub(crate) fn enter_function(
+        &mut self,
+        parameters: &[Parameter<'a>],
+    ) -> Result<(), ToyError<'a>> {
         let entry = self.create_block();
         let call = Call::AppendBlockParamsForFunctionParams { block: entry };
         let place = self.call(call).place;
         self.enter(entry);
-        for (answer, name) in parameters.iter().enumerate() {
-            self.declare(*name, Name { place, answer })?;
+        for (answer, parameter) in parameters.iter().enumerate() {
+            let value = Name { place, answer };
+            self.declare(parameter.name, parameter.kind, value)?;
         }
         Ok(())
     }
@@ -147,15 +180,29 @@ impl<'t, 'a> Compiler<'t, 'a> {
         Ok(())
     }
 
-    /// A new variable of this name, which holds the value. It hides one that has the name already.
-    pub(crate) fn declare(&mut self, name: &'a str, value: Name) -> Result<(), ToyError<'a>> {
+    /// A new variable of this name, which holds the value. It hides one that has the name already. Stack maps name what a
+    /// variable of references holds, so that a collector finds it at each call.
+    pub(crate) fn declare(
+        &mut self,
+        name: &'a str,
+        kind: Kind,
+        value: Name,
+    ) -> Result<(), ToyError<'a>> {
         if self.variables >= 0xffff_fffe {
             return Err(self.parser.fault(Fault::Full));
         }
         let variable = Variable::new(self.variables);
         self.variables += 1;
         self.call(Call::DeclareVar { ty: I64 });
-        if self.locals.push(Local { name, variable }).is_err() {
+        if kind == Kind::Reference {
+            self.call(Call::DeclareVarNeedsStackMap { variable });
+        }
+        let local = Local {
+            name,
+            variable,
+            kind,
+        };
+        if self.locals.push(local).is_err() {
             return Err(ToyError::Memory);
         }
         self.assign(variable, value);
@@ -172,9 +219,12 @@ impl<'t, 'a> Compiler<'t, 'a> {
     }
 
     /// The variable of this name that was declared last, of those in scope.
-    pub(crate) fn find(&self, name: &str) -> Option<Variable> {
-        let local = self.locals.iter().rev().find(|local| local.name == name)?;
-        Some(local.variable)
+    pub(crate) fn find(&self, name: &str) -> Option<Local<'a>> {
+        self.locals
+            .iter()
+            .rev()
+            .find(|local| local.name == name)
+            .copied()
     }
 
     /// How many parameters the function of this name has, if the program has it.
@@ -194,7 +244,8 @@ impl<'t, 'a> Compiler<'t, 'a> {
             Some(known) => known.function,
             None => self.import(name, args.len())?,
         };
-        let call = Call::Outside(OutsideCall::Call { function, args });
+        let outside = StraightInstruction::Outside(OutsideCall::Call { function, args });
+        let call = Call::Straight(Lender::Ins, outside);
         let place = self.call(call).place;
         Ok(Name { place, answer: 1 })
     }

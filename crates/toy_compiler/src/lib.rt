@@ -1,7 +1,7 @@
 //! A compiler of a toy language, for a front-end author to copy: from a text to the calls on the builder, and from these
 //! to functions.
 //!
-//! Every value is an integer of 64 bits. A program is a list of functions. Each is compiled by itself: a call is an outside
+//! Every value is an integer of 64 bits, and may be a reference that a collector moves. A program is a list of functions. Each is compiled by itself: a call is an outside
 //! call. `answer gcd 12;` says what calls of `gcd` return where a function is run; of two such lines the first counts.
 //!
 //! ```text

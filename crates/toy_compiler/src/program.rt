@@ -1,16 +1,18 @@
 //! Programs: the functions of a text, and what is said of outside calls.
 //!
 //! ```text
-//! program = {"fn" name "(" [name {"," name}] ")" block | "answer" name ["-"] number ";"}
+//! program   = {"fn" name "(" [parameter {"," parameter}] ")" block | "answer" name ["-"] number ";" | moves}
+//! parameter = ["ref"] name
+//! moves     = "moves" ("add" ["-"] number | "one" | "events") ";"
 //! ```
 ghost use Rattle.std.specs.Prelude.{◌≡◌, ◌<◌, IfOk};
 ghost use Rattle.toy_compiler.specs.Meaning.{MeansItsCalls, toy_signature};
 
 use crate::error::{Fault, ToyError};
-use crate::function::Compiler;
+use crate::function::{Compiler, Kind};
 use crate::parser::Parser;
 use crate::tokens::{Token, tokens_of};
-use clif_calls::{Call, OutsideAnswer};
+use clif_calls::{Call, Moves, OutsideAnswer};
 use clif_ir::Function;
 use clif_replay::{
     Condition, FunctionBuilderContext, ReplayError, ReplayNotes, replay, replay_noted,
@@ -30,11 +32,18 @@ const TARGET: TargetFrontendConfig = TargetFrontendConfig {
 /// How many blocks, brackets and arms behind `else` may stand within one another.
 const DEPTH: u32 = 200;
 
-/// The name of a function, and those of its parameters.
+/// A parameter of a function.
+#[derive(Clone, Copy)]
+pub(crate) struct Parameter<'a> {
+    pub(crate) name: &'a str,
+    pub(crate) kind: Kind,
+}
+
+/// The name of a function, and its parameters.
 #[derive(Drop)]
 pub(crate) struct Header<'a> {
     pub(crate) name: &'a str,
-    pub(crate) parameters: Vec<&'a str>,
+    pub(crate) parameters: Vec<Parameter<'a>>,
 }
 
 /// A function of a program, as the calls that build it.
@@ -55,6 +64,8 @@ pub struct Program<'a> {
     pub functions: Vec<CompiledFunction<'a>>,
     /// What outside calls of its functions return, where one of them is run. `answer gcd 12;` says that of `gcd`.
     pub answers: Vec<OutsideAnswer>,
+    /// What a collector makes of references at each outside call, where a function is run.
+    pub moves: Option<Moves>,
 }
 
 /// The program of a text.
@@ -68,19 +79,63 @@ pub fn compile<'a>(alloc: Global, text: &'a str) -> Result<Program<'a>, ToyError
     let mut parser = Parser::new(tokens.as_slice());
     let mut functions = Vec::new(alloc);
     let mut answers = Vec::new(alloc);
+    let mut moves = None;
     for _ in 0..tokens.len() {
         if parser.left() == 0 {
-            return Ok(Program { functions, answers });
+            break;
         }
         if parser.skips("answer") {
             answers.push(take_answer(alloc, &mut parser, headers.as_slice())?)?;
         } else if parser.peek() == "fn" {
             functions.push(take_function(alloc, &mut parser, headers.as_slice())?)?;
         } else {
-            return Err(parser.wanted("fn or answer"));
+            moves = Some(take_moves(&mut parser, moves)?);
         }
     }
-    Ok(Program { functions, answers })
+    Ok(Program {
+        functions,
+        answers,
+        moves,
+    })
+}
+
+// What the collector does, which is said once.
+fn take_moves<'a>(
+    parser: &mut Parser<'_, 'a>,
+    earlier: Option<Moves>,
+) -> Result<Moves, ToyError<'a>> {
+    if parser.peek() != "moves" {
+        return Err(parser.wanted("fn, answer or moves"));
+    }
+    if earlier.is_some() {
+        return Err(parser.fault(Fault::Twice("moves")));
+    }
+    parser.take();
+    let moves = if parser.skips("add") {
+        Moves::Add(take_number(parser)?)
+    } else if parser.skips("one") {
+        Moves::One
+    } else if parser.skips("events") {
+        Moves::Events
+    } else {
+        return Err(parser.wanted("add, one or events"));
+    };
+    parser.expect(";")?;
+    Ok(moves)
+}
+
+// A number, with `-` before it if it is negative.
+fn take_number<'a>(parser: &mut Parser<'_, 'a>) -> Result<i64, ToyError<'a>> {
+    let is_negative = parser.skips("-");
+    let Ok(size) = parser.peek().parse::<i64>() else {
+        return Err(parser.fault(Fault::Number));
+    };
+    parser.take();
+    Ok(if is_negative {
+        size.wrapping_neg()
+    } else {
+        size
+    })
 }
 
 // A function, with its header.
@@ -118,18 +173,10 @@ fn take_answer<'a>(
     if !headers.iter().any(|header| header.name == name) {
         return Err(ToyError::at(place, Fault::Unknown(name)));
     }
-    let is_negative = parser.skips("-");
-    let Ok(size) = parser.peek().parse::<i64>() else {
-        return Err(parser.fault(Fault::Number));
-    };
-    parser.take();
+    let number = take_number(parser)?;
     parser.expect(";")?;
     let mut values = Vec::new(alloc);
-    values.push(if is_negative {
-        size.wrapping_neg()
-    } else {
-        size
-    })?;
+    values.push(number)?;
     let callee = UserFuncName::testcase(String::from_str(alloc, name)?);
     Ok(OutsideAnswer {
         callee,
@@ -158,20 +205,28 @@ fn headers_of<'a>(alloc: Global, tokens: &[Token<'a>]) -> Result<Vec<Header<'a>>
     Ok(headers)
 }
 
-// `fn name(parameter, ..)`
+// `fn name(parameter, ref parameter, ..)`
 fn take_header<'a>(alloc: Global, parser: &mut Parser<'_, 'a>) -> Result<Header<'a>, ToyError<'a>> {
     parser.expect("fn")?;
     let name = parser.name()?;
     parser.expect("(")?;
-    let mut parameters: Vec<&'a str> = Vec::new(alloc);
+    let mut parameters: Vec<Parameter<'a>> = Vec::new(alloc);
     if parser.skips(")") {
         return Ok(Header { name, parameters });
     }
     for _ in 0..parser.left() {
+        let kind = if parser.skips("ref") {
+            Kind::Reference
+        } else {
+            Kind::Number
+        };
         let place = parser.place();
-        let parameter = parser.name()?;
-        if parameters.iter().any(|other| *other == parameter) {
-            return Err(ToyError::at(place, Fault::Twice(parameter)));
+        let parameter = Parameter {
+            name: parser.name()?,
+            kind,
+        };
+        if parameters.iter().any(|other| other.name == parameter.name) {
+            return Err(ToyError::at(place, Fault::Twice(parameter.name)));
         }
         parameters.push(parameter)?;
         if parser.skips(")") {

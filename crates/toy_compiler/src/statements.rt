@@ -2,13 +2,15 @@
 //!
 //! ```text
 //! block     = "{" {statement} "}"
-//! statement = ["let"] variable "=" expression ";"
+//! statement = ["let" ["ref"]] variable "=" expression ";"
 //!           | "while" expression block
 //!           | "if" expression block ["else" (block | "if" ..)]
 //!           | "return" expression ";"
 //! ```
 use crate::error::{Fault, ToyError};
-use crate::function::Compiler;
+use crate::function::{Compiler, Kind, Value};
+use crate::tokens::Place;
+use clif_calls::Name;
 
 impl<'t, 'a> Compiler<'t, 'a> {
     /// A block; blocks may be nested so deeply. The variables that it declares end with it.
@@ -41,28 +43,35 @@ impl<'t, 'a> Compiler<'t, 'a> {
             return self.if_statement(depth);
         }
         if self.parser.skips("return") {
-            let value = self.expression(depth)?;
+            let value = self.expression(depth)?.name;
             self.parser.expect(";")?;
             return self.return_value(value);
         }
         self.assignment(depth)
     }
 
-    // `let x = ..;` or `x = ..;`. The value is computed before the variable is declared.
+    // `let x = ..;`, `let ref x = ..;` or `x = ..;`. The value is computed before the variable is declared.
     fn assignment(&mut self, depth: u32) -> Result<(), ToyError<'a>> {
         let declares = self.parser.skips("let");
+        let kind = if declares && self.parser.skips("ref") {
+            Kind::Reference
+        } else {
+            Kind::Number
+        };
         let place = self.parser.place();
         let name = self.parser.name()?;
         self.parser.expect("=")?;
         let value = self.expression(depth)?;
         self.parser.expect(";")?;
         if declares {
-            return self.declare(name, value);
+            let value = assigned(place, name, kind, value)?;
+            return self.declare(name, kind, value);
         }
-        let Some(variable) = self.find(name) else {
+        let Some(local) = self.find(name) else {
             return Err(ToyError::at(place, Fault::Undeclared(name)));
         };
-        self.assign(variable, value);
+        let value = assigned(place, name, local.kind, value)?;
+        self.assign(local.variable, value);
         Ok(())
     }
 
@@ -74,7 +83,7 @@ impl<'t, 'a> Compiler<'t, 'a> {
         let exit = self.create_block();
         self.jump(header);
         self.switch_to(header);
-        let condition = self.expression(depth)?;
+        let condition = self.expression(depth)?.name;
         self.branch(condition, body, exit);
         self.enter(body);
         self.block(depth)?;
@@ -87,7 +96,7 @@ impl<'t, 'a> Compiler<'t, 'a> {
     // Two arms, which meet again unless both return.
     #[cycle(statement)]
     fn if_statement(&mut self, depth: u32) -> Result<(), ToyError<'a>> {
-        let condition = self.expression(depth)?;
+        let condition = self.expression(depth)?.name;
         let arm = self.create_block();
         let other = self.create_block();
         let after = self.create_block();
@@ -115,5 +124,19 @@ impl<'t, 'a> Compiler<'t, 'a> {
             Some(inner) => self.if_statement(inner),
             None => Err(self.parser.fault(Fault::TooDeep)),
         }
+    }
+}
+
+// What the variable of this name at this place gets by this value: what another variable holds has to be of its kind.
+fn assigned<'a>(
+    place: Place,
+    name: &'a str,
+    kind: Kind,
+    value: Value,
+) -> Result<Name, ToyError<'a>> {
+    match (kind, value.kind) {
+        (Kind::Number, Some(Kind::Reference)) => Err(ToyError::at(place, Fault::NoNumber(name))),
+        (Kind::Reference, Some(Kind::Number)) => Err(ToyError::at(place, Fault::NoReference(name))),
+        _ => Ok(value.name),
     }
 }

@@ -117,7 +117,11 @@ pub fn is_name(text: &str) -> bool {
         Some(first) => first.is_ascii_alphabetic() || *first == b'_',
         None => false,
     };
-    begins_so && !matches!(text, "fn" | "let" | "while" | "if" | "else" | "return")
+    begins_so
+        && !matches!(
+            text,
+            "fn" | "let" | "ref" | "while" | "if" | "else" | "return"
+        )
 }
 
 /// Whether a word is a number: it begins with a digit.
