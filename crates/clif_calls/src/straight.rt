@@ -14,7 +14,7 @@ pub enum Lender {
 
 /// An instruction that ends no block, with names in place of values.
 pub enum StraightInstruction {
-    /// One of which all that isn't a value is in the instruction.
+    /// An instruction that calls nothing and pools no constant.
     Plain(PlainInstruction),
     /// An outside call.
     Outside(OutsideCall),
