@@ -19,3 +19,4 @@ pub mod CallLists
 pub mod BranchRow
 pub mod EachStep
 pub mod OperationTypes
+pub mod Effects

@@ -36,7 +36,7 @@ use Rattle.clif_simulation.proofs.Calls.{carries_kept, carries_on, inserted_soun
 use Rattle.clif_simulation.specs.Tracks.{TracksOnPaths}
 use Rattle.clif_simulation.proofs.Carrying.{edges_there}
 use Rattle.clif_simulation.proofs.FreeEntry.{entry_inserted, spared_sealed, still_sealed}
-use Rattle.clif_simulation.proofs.Effects.{MakesNoBlock, MakesNoParameter}
+use Rattle.clif_meaning.proofs.Effects.{MakesNoBlock, MakesNoParameter}
 use Rattle.clif_simulation.proofs.Numbering.{MakesNoInstruction}
 use Rattle.clif_simulation.proofs.Growing.{GoesOn, KeepsEntries, KeepsInsts, goes_on-constructs, insts_kept, insts_same}
 use Rattle.clif_simulation.proofs.Layouts as layouts

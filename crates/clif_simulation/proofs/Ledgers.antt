@@ -13,7 +13,7 @@ use Rattle.clif_simulation.specs.Carries.{AreTypes}
 use Rattle.clif_simulation.specs.Carries as carries
 use Rattle.clif_ssa.specs.Structured.{VariableTypes}
 use Rattle.clif_simulation.proofs.Beginning.{current-begun, one_current}
-use Rattle.clif_simulation.proofs.Effects.{KeepsFilled, LedgerEffect, ledger_effect, Keeps, Lays, Changes, Begins, Creates, Enters, ChangesEach, Declares, Touches, Reads, Appends, Marks}
+use Rattle.clif_meaning.proofs.Effects.{KeepsFilled, LedgerEffect, ledger_effect, Keeps, Lays, Changes, Begins, Creates, Enters, ChangesEach, Declares, Touches, Reads, Appends, Marks}
 use Rattle.clif_simulation.proofs.NameLists.{same_name-equal, names-with_begun_at}
 use Rattle.clif_simulation.proofs.Numbers.{ledger_longer}
 use Rattle.clif_simulation.proofs.Values.{false_is}

@@ -9,7 +9,6 @@ pub mod Whole
 -- No branch leads to any block.
 pub mod Unbranched
 -- What calls do to program and ledger, and what items give.
-mod Effects
 pub mod Listed
 pub mod GivenNames
 -- A function goes on to carry one more call.

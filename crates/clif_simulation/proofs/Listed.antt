@@ -7,8 +7,8 @@ use Rattle.clif_meaning.specs.Program.{Program, Item, with_item_at, with_inserte
 use Rattle.clif_meaning.specs.Path.{Place, IsPath}
 use Rattle.clif_meaning.specs.WellPlaced.{item_gives, program_flow, program_code, IsGivenAlong, given_on_entry}
 use Rattle.clif_simulation.specs.Tables.{program_so_far}
-pub use Rattle.clif_simulation.proofs.Effects.{MakesNoParameter}
-use Rattle.clif_simulation.proofs.Effects.{ProgramEffect, program_effect, Leaves, Inserts, Takes, Switches, Assigns, Uses, Builds, Redirects}
+pub use Rattle.clif_meaning.proofs.Effects.{MakesNoParameter}
+use Rattle.clif_meaning.proofs.Effects.{ProgramEffect, program_effect, Leaves, Inserts, Takes, Switches, Assigns, Uses, Builds, Redirects}
 use Rattle.clif_simulation.proofs.Numbers.{program_longer}
 use Rattle.clif_meaning.proofs.StraightLine.{nothing_contained}
 

@@ -9,8 +9,8 @@ use Rattle.clif_meaning.specs.Instruction.{Operation, Edge}
 use Rattle.clif_meaning.specs.Request.{Request, AnsweredCall, script_of}
 use Rattle.clif_meaning.specs.Ledger.{BlockState, Ledger, ledger_after, ledger_with, with_state, with_layout, with_begun_at, with_begun, with_filled_at, with_terminator, with_predecessor, is_inserted, is_terminator}
 use Rattle.clif_simulation.specs.Tables.{block_name}
-pub use Rattle.clif_simulation.proofs.Effects.{MakesNoBlock, Marks}
-use Rattle.clif_simulation.proofs.Effects.{LedgerEffect, ledger_effect, Keeps, Lays, Changes, Begins, Creates, Enters, ChangesEach, Declares, Touches, Reads, Appends}
+pub use Rattle.clif_meaning.proofs.Effects.{MakesNoBlock, Marks}
+use Rattle.clif_meaning.proofs.Effects.{LedgerEffect, ledger_effect, Keeps, Lays, Changes, Begins, Creates, Enters, ChangesEach, Declares, Touches, Reads, Appends}
 use Rattle.clif_simulation.proofs.Numbers.{ledger_longer}
 
 pub same_name-equal : (a b : Name) → a ≡ b → same_name a b ≡ true

@@ -12,7 +12,7 @@ use Rattle.clif_meaning.specs.Program.{Program, Instruct, Use, Assign, extended,
 use Rattle.clif_simulation.specs.Tables.{program_so_far, block_name}
 use Rattle.clif_simulation.specs.Carries.{HasEntry}
 use Rattle.clif_simulation.proofs.Numbers.{program_longer, place_so_far}
-use Rattle.clif_simulation.proofs.Effects.{MakesNoParameter, MakesNoBlock}
+use Rattle.clif_meaning.proofs.Effects.{MakesNoParameter, MakesNoBlock}
 use Rattle.clif_simulation.proofs.ItemCalls.{PutsItem}
 
 module _ (calls : List AnsweredCall) (call : AnsweredCall) where

@@ -7,7 +7,7 @@ use Rattle.clif_meaning.specs.Name.{Name, answer_of, same_name}
 use Rattle.clif_meaning.specs.Request.{Request, DefVar, UseVar, Script, NeedStackMap}
 use Rattle.clif_meaning.specs.Ledger.{Ledger, VariableState, changed_by, empty_ledger, is_marked, ledger_after, ledger_with, marked, new_variable, touched_at, with_begun, with_terminator}
 use Rattle.clif_meaning.specs.Tracked.{is_tracked, tracked_from, AsksForNoMaps, TracksNothing}
-use Rattle.clif_simulation.proofs.Effects.{LedgerEffect, ledger_effect, Keeps, Lays, Changes, Begins, Creates, Enters, ChangesEach, Declares, Touches, Reads, Appends, Marks}
+use Rattle.clif_meaning.proofs.Effects.{LedgerEffect, ledger_effect, Keeps, Lays, Changes, Begins, Creates, Enters, ChangesEach, Declares, Touches, Reads, Appends, Marks}
 use Rattle.clif_simulation.proofs.Ledgers.{variables-begun, variables-edges, variables-terminator}
 
 abbrev IsUnmarked : VariableState → Type 0

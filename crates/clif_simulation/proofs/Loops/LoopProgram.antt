@@ -14,7 +14,7 @@ use Rattle.clif_simulation.specs.Tables.{code, answered, program_so_far, block_n
 use Rattle.clif_simulation.specs.CarryingExamples.{loop_calls}
 use Rattle.clif_simulation.proofs.NameLists.{same_name_cases}
 use Rattle.clif_simulation.proofs.Beginning.{current_of_program}
-use Rattle.clif_simulation.proofs.Effects.{switch_of, ProgramEffect, program_effect, Leaves, Inserts, Takes, Switches, Assigns, Uses, Builds, Redirects}
+use Rattle.clif_meaning.proofs.Effects.{switch_of, ProgramEffect, program_effect, Leaves, Inserts, Takes, Switches, Assigns, Uses, Builds, Redirects}
 use Rattle.clif_simulation.proofs.Loops.LoopTables.{loop_tables, computing_row, each_name_of_row, each_write_of_row}
 
 abbrev items_of_block : Name → List Item

@@ -12,7 +12,7 @@ use Rattle.clif_meaning.specs.Request.{AnsweredCall}
 use Rattle.clif_meaning.specs.WellPlaced.{item_gives}
 use Rattle.clif_simulation.specs.Carries.{EdgesEnd, instruction_of}
 use Rattle.clif_simulation.specs.Tables.{IsGiven, IsParameter, IsProgramOf, answered, assigned_by, block_name, code, item_at, origin_of, program_so_far}
-use Rattle.clif_simulation.proofs.Effects.{MakesNoBlock, MakesNoParameter}
+use Rattle.clif_meaning.proofs.Effects.{MakesNoBlock, MakesNoParameter}
 use Rattle.clif_simulation.proofs.GivenNames.{named_earlier}
 use Rattle.clif_simulation.proofs.Listed.{parameters_stay}
 use Rattle.clif_simulation.proofs.NameLists.{names_stay}

@@ -11,7 +11,7 @@ use Rattle.clif_meaning.specs.Typing.{call_shape}
 use Rattle.clif_simulation.specs.Carries.{CallsNothing}
 use Rattle.clif_simulation.proofs.Carrying.{all_append}
 use Rattle.clif_simulation.proofs.Redirections.EachRedirected.{all_redirected}
-use Rattle.clif_simulation.proofs.Effects.{ProgramEffect, program_effect, Leaves, Inserts, Takes, Switches, Assigns, Uses, Builds, Redirects}
+use Rattle.clif_meaning.proofs.Effects.{ProgramEffect, program_effect, Leaves, Inserts, Takes, Switches, Assigns, Uses, Builds, Redirects}
 
 -- the request builds no outside call
 abbrev builds_no_call : Request → Bool

@@ -33,7 +33,7 @@ use Rattle.clif_meaning.proofs.ByteOperations.{byte_cases, byte_values}
 use Rattle.clif_meaning.specs.Outcome.{Outcome, Gives, Goes, Returns, Traps, Calls, NoStep, access_outcome, no_claim, are_accessible, binary_fault, binary_number, byte_outcome, byte_results, call_outcome, computed, traps_on, low_bits_at, outcome_of_computed, outcome_of, unless_fault}
 use Rattle.clif_simulation.proofs.Finished.Matching.{IsPlain, outcome_plain}
 use Rattle.clif_simulation.proofs.Redirections.EachRedirected.{all_redirected}
-use Rattle.clif_simulation.proofs.Effects.{ProgramEffect, program_effect, Leaves, Inserts, Takes, Switches, Assigns, Uses, Builds, Redirects}
+use Rattle.clif_meaning.proofs.Effects.{ProgramEffect, program_effect, Leaves, Inserts, Takes, Switches, Assigns, Uses, Builds, Redirects}
 
 -- an instruction gives the names of its results
 abbrev pub GivesResults : Item → Type 0
