@@ -9,9 +9,10 @@
 //! order. It is proved that each call is safe and ends, and tested which text it writes.
 ghost use Rattle.std.specs.Prelude.{ℕ, ◌≡◌, ◌<◌, length, EachIndex, All, slice_index};
 ghost use Rattle.clif_ir.specs.Body.{resolved};
-ghost use Rattle.clif_ir.specs.Consistent.{EdgeExists};
+ghost use Rattle.clif_ir.specs.Consistent.{EdgeExists, ValueExists};
 ghost use Rattle.clif_ir.specs.Reading.{DefExists, def_of};
-ghost use Rattle.clif_instructions.specs.Instruction.{operands, destinations};
+ghost use Rattle.clif_instructions.specs.ExceptionTables.{contexts_of};
+ghost use Rattle.clif_instructions.specs.Instruction.{contexts, operands, destinations};
 
 use crate::function::Function;
 use clif_inst_text::calls::{
@@ -21,6 +22,7 @@ use clif_inst_text::operands::{
     float_bits, write_offset, write_operands, write_place, write_table, write_values,
 };
 use clif_instructions::block_call::{BlockArg, BlockCall};
+use clif_instructions::exception_table::{ExceptionItem, ExceptionTargets};
 use clif_instructions::immediates::{Imm64, signed_at};
 use clif_instructions::instructions::InstructionData;
 use clif_nodes::ValueOrigin;
@@ -261,7 +263,8 @@ fn origin(func: &Function, value: Value) -> ValueOrigin
     func.values[resolved.index()].origin
 }
 
-// A comment that names each operand, and then each argument of an edge, that stands for a constant.
+// A comment that names each operand that stands for a constant, and then, as they are printed, each argument of an edge and each
+// context of a try call that does.
 fn write_comment<W: fmt::Write>(
     f: &mut fmt::Formatter<W>,
     func: &Function,
@@ -269,17 +272,76 @@ fn write_comment<W: fmt::Write>(
 ) -> fmt::Result
     requires operands_exist { EachIndex (operands shape.now) (λ k. slice_index (operands shape.now) k < length func.now.values) }
     requires edges_exist { All (EdgeExists func.now) (destinations shape.now) }
+    requires contexts_exist { All (ValueExists func.now) (contexts shape.now) }
 {
     let mut separator = "  ; ";
     for value in shape.arguments().iter() {
-        if let Some(constant) = constant_of(func, *value) {
-            separator = write_constant(f, func, *value, constant, separator)?;
-        }
+        separator = write_value_constant(f, func, *value, separator)?;
     }
-    for edge in shape.branch_destination().iter() {
+    match shape.exception_targets() {
+        Some(exception) => write_exception_constants(f, func, exception, separator),
+        None => write_branch_constants(f, func, shape.branch_destination(), separator),
+    }
+}
+
+// The part of a comment on what the edges of a branch pass.
+fn write_branch_constants<W: fmt::Write>(
+    f: &mut fmt::Formatter<W>,
+    func: &Function,
+    edges: &[BlockCall],
+    separator: &str,
+) -> fmt::Result
+    requires { All (EdgeExists func.now) edges.now }
+{
+    let mut separator = separator;
+    for edge in edges.iter() {
         separator = write_edge_constants(f, func, edge, separator)?;
     }
     Ok(())
+}
+
+// The part of a comment on a try call's edges and contexts: the normal edge comes first, and then the items in order.
+fn write_exception_constants<W: fmt::Write>(
+    f: &mut fmt::Formatter<W>,
+    func: &Function,
+    exception: &ExceptionTargets,
+    separator: &str,
+) -> fmt::Result
+    requires edges_exist { All (EdgeExists func.now) exception.now.edges }
+    requires contexts_exist { All (ValueExists func.now) (contexts_of exception.now) }
+{
+    let edges = exception.all_branches();
+    let items = exception.items();
+    let mut separator = write_constants_of_edge_at(f, func, edges, 0, separator)?;
+    let mut next = 1;
+    for place in 0..items.len() {
+        match items[place] {
+            ExceptionItem::Context(value) => {
+                separator = write_value_constant(f, func, value, separator)?;
+            }
+            ExceptionItem::Tag(_) | ExceptionItem::Default => {
+                separator = write_constants_of_edge_at(f, func, edges, next, separator)?;
+                next += 1;
+            }
+        }
+    }
+    Ok(())
+}
+
+// The part of a comment on what the edge at a place passes, if there is one; answers what goes before the next part.
+fn write_constants_of_edge_at<'a, W: fmt::Write>(
+    f: &mut fmt::Formatter<W>,
+    func: &Function,
+    edges: &[BlockCall],
+    place: usize,
+    separator: &'a str,
+) -> Result<&'a str, fmt::Error>
+    requires { All (EdgeExists func.now) edges.now }
+{
+    match edges.get(place) {
+        Some(edge) => write_edge_constants(f, func, edge, separator),
+        None => Ok(separator),
+    }
 }
 
 // The part of a comment on what an edge passes; answers what goes before the next part.
@@ -294,9 +356,7 @@ fn write_edge_constants<'a, W: fmt::Write>(
     let mut separator = separator;
     for arg in edge.args.as_slice().iter() {
         if let BlockArg::Value(value) = arg {
-            if let Some(constant) = constant_of(func, *value) {
-                separator = write_constant(f, func, *value, constant, separator)?;
-            }
+            separator = write_value_constant(f, func, *value, separator)?;
         }
     }
     Ok(separator)
@@ -317,6 +377,22 @@ fn constant_of(func: &Function, value: Value) -> Option<&InstructionData>
         | InstructionData::UnaryIeee { .. }
         | InstructionData::UnaryConst { .. } => Some(shape),
         _ => None,
+    }
+}
+
+// The part of a comment on a value, if it stands for a constant; answers what goes before the next part.
+#[inline(always)]
+fn write_value_constant<'a, W: fmt::Write>(
+    f: &mut fmt::Formatter<W>,
+    func: &Function,
+    value: Value,
+    separator: &'a str,
+) -> Result<&'a str, fmt::Error>
+    requires { value < length func.now.values }
+{
+    match constant_of(func, value) {
+        Some(constant) => write_constant(f, func, value, constant, separator),
+        None => Ok(separator),
     }
 }
 
