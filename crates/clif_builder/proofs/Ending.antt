@@ -116,6 +116,10 @@ pub on_ok_both : {E A B C : Type 0} (r : Result (Unit {0}) E) → (A → B → C
 on_ok_both (Ok u) both a b = both a b
 on_ok_both (Err e) both a b = tt
 
+pub on_ok_given : {E A B : Type 0} (r : Result (Unit {0}) E) → (A → OnOk r B) → OnOk r (A → B)
+on_ok_given (Ok u) f = f
+on_ok_given (Err e) f = tt
+
 -- what the blocks lack is answered
 lack_is_told : {R : Type 0} (b : FunctionBuilder R) (answer : Result (Unit {0}) FinalizeError) (lack : FinalizeError) → Ends b answer
     → verdict_of b.failed b.ctx.now.parts (length b.func.now.blocks) ≡ Err lack → answer ≡ Err lack

@@ -53,3 +53,5 @@ pub mod Ending
 mod Fitting
 pub mod Regions
 mod Spilled
+pub mod ReadByNumber
+pub mod StandingForCalls

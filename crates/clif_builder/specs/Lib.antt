@@ -20,3 +20,5 @@ pub mod Entries
 pub mod Laws
 pub mod LedgerLaws
 pub mod LeadsLaw
+pub mod StandsForCalls
+pub mod CallsLaw

@@ -15,6 +15,8 @@ ghost use Rattle.clif_builder.specs.Clear.{IsClear};
 ghost use Rattle.clif_builder.specs.Ending.{AnswersAfter, AsFound, BecomesFinished, Ends, EndsByLedger, IsBeforeSpilling, TellsContext, TellsSpilling, recorded_in};
 ghost use Rattle.clif_builder.specs.Ledger.{AgreesWithLedger, ledger_of};
 ghost use Rattle.clif_builder.specs.StandsFor.{StandsFor};
+ghost use Rattle.clif_builder.specs.StandsForCalls.{FinishesCalls, StandsForCalls};
+ghost use Rattle.clif_expansion.specs.ScriptCall.{ScriptCall};
 ghost use Rattle.clif_builder.specs.Tracking.{RecordedFits};
 
 use crate::builder::FunctionBuilder;
@@ -68,6 +70,9 @@ impl<'a> FunctionBuilder<'a> {
         ensures found { (signature : SignatureShape) (calls : List AnsweredCall)
             → StandsFor signature calls self.entry
             → OnOk result (AsFound signature config.pointer_width calls self.entry) }
+        ensures calls { (signature : SignatureShape) (calls : List ScriptCall)
+            → StandsForCalls config.pointer_width signature calls self.entry
+            → OnOk result (FinishesCalls calls signature config.pointer_width self.entry.func.now self.exit.0.now) }
         ensures spilled { OnOk result (BecomesFinished self.entry.func.now (recorded_in self.entry)
             (pointer_type_of config.pointer_width)
             self.entry.ctx.now.region (λ c. post (c.ask.vtable, c.ask.value)) self.exit.0.now) }

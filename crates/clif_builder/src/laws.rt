@@ -1,6 +1,7 @@
 //! Laws of the builder's calls, and of what a builder stands for. The functions here have empty bodies, and their contracts
 //! are the laws.
 
+ghost use Rattle.clif_builder.specs.CallsLaw.{BuildersStandForCalls};
 ghost use Rattle.clif_builder.specs.Growth.{BuilderUsesAgree};
 ghost use Rattle.clif_builder.specs.Laws.{StandingMatchesEdges};
 ghost use Rattle.clif_builder.specs.LeadsLaw.{LeadsAreReadByNumber};
@@ -45,4 +46,10 @@ pub fn table_calls_add_nothing()
 /// builder stands for.
 pub fn notes_add_nothing()
     ensures { NotesAddNothing }
+{}
+
+/// How a builder comes to stand for the calls of a script, of which a sum or comparison with a constant, a switch and a memory helper are
+/// one each: each call of the builder that the script's ledger allows puts itself at the end. What is emitted is said where it is made.
+pub fn builders_stand_for_calls<R>()
+    ensures { BuildersStandForCalls R }
 {}

@@ -2,10 +2,11 @@ use Rattle.clif_meaning.specs.Request.{Finalize}
 use Rattle.clif_meaning.specs.Acceptance.{refusal_of}
 use Rattle.clif_builder.specs.Ending.{recorded_in}
 use Rattle.clif_builder.specs.Ledger.{ledger_of}
-use Rattle.clif_builder.proofs.Ending.{ends_after, ends_by_ledger, on_ok_both, on_ok_map, sound_where_ok}
+use Rattle.clif_builder.proofs.Ending.{ends_after, ends_by_ledger, on_ok_both, on_ok_given, on_ok_map, sound_where_ok}
 use Rattle.clif_builder.proofs.Finishing.{as_found, finished_where_ok}
 use Rattle.clif_builder.proofs.LedgerEnds.{finished}
 use Rattle.clif_builder.proofs.Named.{kept_recorded}
+use Rattle.clif_builder.proofs.StandingForCalls.{finishes}
 use Rattle.clif_builder.proofs.Spilled.{finished_at, finished_matches, finished_means, kept_cleared, kept_ended}
 use Rattle.clif_builder.proofs.finalize.FunctionBuilder.finalize.Goals as goal
 
@@ -42,6 +43,15 @@ pub returns-clause-found : goal.returns-clause-found
 returns-clause-found g c = λ signature calls stands.
     on_ok_map c.finish-answer.result (as_found signature calls c.args.self c.args.config.pointer_width stands c.law_consistent.ensures)
     (finished_where_ok signature calls c.args.self c.finish-answer.result stands c.law_consistent.ensures (returns-clause-answer g c))
+
+pub returns-clause-calls : goal.returns-clause-calls
+returns-clause-calls g c = λ signature calls so_far.
+    on_ok_both c.finish-answer.result
+    (λ means rest. finishes c.args.config.pointer_width signature calls c.args.self so_far c.finish-answer.new.func means rest.0 rest.1)
+    (returns-clause-same_meaning g c signature so_far.made so_far.stands)
+    (on_ok_both c.finish-answer.result (λ matches found. (matches, found))
+    (on_ok_given c.finish-answer.result (λ typed. returns-clause-edges_match g c signature so_far.made so_far.stands typed))
+    (returns-clause-found g c signature so_far.made so_far.stands))
 
 -- the context is given back first
 pub invariant_of-self-2 : goal.invariant_of-self-2
