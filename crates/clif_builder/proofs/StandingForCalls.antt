@@ -1,5 +1,5 @@
 -- A builder that stands for the calls of a script stands for one call more, once its plain calls were made.
-use Rattle.std.proofs.Common.{◌≡◌, ℕ, List, [], ◌∷◌, ◌++◌, ap, refl, subst, sym, ◌∙◌}
+use Rattle.std.proofs.Common.{◌≡◌, ℕ, List, [], ◌∷◌, ◌++◌, length, ap, refl, subst, sym, ◌∙◌}
 use Rattle.std.specs.Prelude.{IsTrue, fold, true}
 use Rattle.std.proofs.lemmas.List.{map-append}
 use Rattle.clif_types.specs.declared.target.PointerWidth.{PointerWidth}
@@ -7,19 +7,19 @@ use Rattle.clif_types.specs.Signature.{SignatureShape}
 use Rattle.clif_ir.specs.Body.{Body}
 use Rattle.clif_meaning.specs.Headline.{MeansTheSame, pointer_bits}
 use Rattle.clif_meaning.specs.Ledger.{Ledger, empty_ledger, ledger_after}
-use Rattle.clif_meaning.specs.Name.{Name}
+use Rattle.clif_meaning.specs.Name.{Name, answer_of}
 use Rattle.clif_meaning.specs.Premises.{CallersEdgesMatch}
 use Rattle.clif_meaning.specs.Request.{AnsweredCall, Request, Script, script_of}
 use Rattle.clif_meaning.specs.Typing.{EdgesMatch}
 use Rattle.clif_meaning.specs.View.{view_of}
 use Rattle.clif_expansion.specs.CallsVerdict.{AreCallsAllowed}
 use Rattle.clif_expansion.specs.JoinedCalls.{AreJoinedCalls, Asking, Starting}
-use Rattle.clif_expansion.specs.Joining.{IsJoined, IsReadRequest, reading_after}
+use Rattle.clif_expansion.specs.Joining.{IsJoined, IsReadRequest, answers_at, reading_after}
 use Rattle.clif_expansion.specs.PerformedCalls.{ArePerformed}
-use Rattle.clif_expansion.specs.Reading.{NotMade, Reading}
+use Rattle.clif_expansion.specs.Reading.{IsReadAs, NotMade, Reading}
 use Rattle.clif_expansion.specs.ScriptCall.{Ask, ScriptCall, call_allowed, ledger_of, ledger_with_call}
 use Rattle.clif_expansion.proofs.JoinedCalls.{asked_placed, joined_calls}
-use Rattle.clif_expansion.proofs.Joins.{KeepsReading, keeps}
+use Rattle.clif_expansion.proofs.Joins.{KeepsReading, keeps, read_there}
 use Rattle.clif_expansion.proofs.calls.Headline.{calls_mean, keep_premises}
 use Rattle.clif_expansion.proofs.calls.Verdicts.{verdicts_are_read}
 use Rattle.clif_builder.specs.declared.builder.FunctionBuilder.{FunctionBuilder}
@@ -27,7 +27,8 @@ use Rattle.clif_builder.specs.Calls.{answered}
 use Rattle.clif_builder.specs.CallsLaw.{BuildersStandForCalls}
 use Rattle.clif_builder.specs.StandsFor.{StandsFor}
 use Rattle.clif_builder.specs.Ending.{AsFound}
-use Rattle.clif_builder.specs.StandsForCalls.{FinishesCalls, StandsForCalls, StandsOnFor}
+use Rattle.clif_builder.specs.StandsForCalls.{FinishesCalls, NamesAnswers, StandsForCalls, StandsOnFor}
+use Rattle.clif_simulation.proofs.LedgerValues.{as_many}
 use Rattle.clif_builder.proofs.Lasting.{block-stays, value-stays}
 use Rattle.clif_builder.proofs.ReadByNumber.{read_by_number}
 
@@ -50,7 +51,7 @@ module _ {R : Type 0} {width : PointerWidth} {declared : SignatureShape} {calls 
   ledgers_joined = joined_calls before.reading (script_of before.made) calls before.joined
 
   -- one call more of the script, for which these calls were made
-  pub goes_on : (call : ScriptCall) (added : List AnsweredCall) (later : Reading) (new : FunctionBuilder R) → KeepsReading before.reading later
+  abbrev pub goes_on : (call : ScriptCall) (added : List AnsweredCall) (later : Reading) (new : FunctionBuilder R) → KeepsReading before.reading later
       → IsTrue (call_allowed (ledger_of calls) call) → PlainCalls width later (script_of before.made ++ script_of added) (calls ++ call ∷ [])
       → StandsFor declared (before.made ++ added) new → StandsOnFor before (calls ++ call ∷ []) new
   goes_on call added later new kept may plain stands = (
@@ -80,15 +81,27 @@ module _ {R : Type 0} {width : PointerWidth} {declared : SignatureShape} {calls 
       all = subst (λ (script : Script). PlainCalls width later script (calls ++ call ∷ [])) (sym (map-append (λ (a : AnsweredCall). a.request) before.made added)) plain
 
   pub asked_on : (asked request : Request) (numbers : List ℕ) (new : FunctionBuilder R) → IsReadRequest before.reading asked request → IsTrue (call_allowed (ledger_of calls) (Ask request))
-      → StandsFor declared (before.made ++ answered asked numbers ∷ []) new → StandsOnFor before (calls ++ Ask request ∷ []) new
-  asked_on asked request numbers new read may stands =
-      goes_on (Ask request) (answered asked numbers ∷ []) (reading_after before.reading plain_ledger (ledger_of calls)) new
-      (keeps before.reading plain_ledger (ledger_of calls) ledgers_joined) may (
-        Asking before.reading (script_of before.made) calls asked request before.joined read
-            (asked_placed before.reading plain_ledger (ledger_of calls) ledgers_joined request may),
-        before.performed,
-      )
-      stands
+      → StandsFor declared (before.made ++ answered asked numbers ∷ []) new → (on : StandsOnFor before (calls ++ Ask request ∷ []) new) × NamesAnswers before on.0
+  asked_on asked request numbers new read may stands = (
+    goes_on (Ask request) (answered asked numbers ∷ []) later new (keeps before.reading plain_ledger (ledger_of calls) ledgers_joined) may (
+      Asking before.reading (script_of before.made) calls asked request before.joined read
+          (asked_placed before.reading plain_ledger (ledger_of calls) ledgers_joined request may),
+      before.performed,
+    )
+        stands,
+    record {
+      values = λ index value named. record { plain = answer_of (length before.made) index; read = here index; named = named };
+      blocks = λ index block named. record { plain = answer_of (length before.made) index; read = here index; named = named };
+    },
+  )
+    where
+      later : Reading
+      later = reading_after before.reading plain_ledger (ledger_of calls)
+
+      here : (index : ℕ) → IsReadAs later (answer_of (length before.made) index) (answer_of (length (ledger_of calls).answers) index)
+      here index =
+          ap (λ (place : ℕ). later (answer_of place index)) (sym (as_many before.made))
+          ∙ read_there before.reading (length plain_ledger.answers) index (answers_at (length (ledger_of calls).answers))
 
 pub builders_stand : {R : Type 0} → BuildersStandForCalls R
 builders_stand = record {

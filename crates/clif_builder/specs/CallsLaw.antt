@@ -10,7 +10,7 @@ use Rattle.clif_builder.specs.declared.builder.FunctionBuilder.{FunctionBuilder}
 use Rattle.clif_builder.specs.Calls.{answered}
 use Rattle.clif_builder.specs.Ledger.{ledger_of as plain_ledger_of}
 use Rattle.clif_builder.specs.StandsFor.{StandsFor}
-use Rattle.clif_builder.specs.StandsForCalls.{StandsForCalls, StandsOnFor}
+use Rattle.clif_builder.specs.StandsForCalls.{NamesAnswers, StandsForCalls, StandsOnFor}
 
 pub record BuildersStandForCalls (R : Type 0) : Type 0 where
   -- a builder that was asked nothing stands for no calls
@@ -21,4 +21,5 @@ pub record BuildersStandForCalls (R : Type 0) : Type 0 where
   -- Behind such a call the builder stands for the script with that call at its end, if it was allowed: whatever the call was.
   pub asks : (width : PointerWidth) (declared : SignatureShape) (calls : List ScriptCall) (old new : FunctionBuilder R) (before : StandsForCalls width declared calls old) (asked request : Request) (numbers : List ℕ)
       → IsReadRequest before.reading asked request → IsTrue (call_allowed (ledger_of calls) (Ask request))
-      → StandsFor declared (before.made ++ answered asked numbers ∷ []) new → StandsOnFor before (calls ++ Ask request ∷ []) new
+      → StandsFor declared (before.made ++ answered asked numbers ∷ []) new
+      → (on : StandsOnFor before (calls ++ Ask request ∷ []) new) × NamesAnswers before on.0

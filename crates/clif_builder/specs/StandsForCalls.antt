@@ -1,13 +1,13 @@
 -- When a builder stands for the calls of a script that may also emit: a sum or a comparison with a constant, a switch and a memory
 -- helper are one call each. The builder was asked plain calls: those of the script with their names read, and code that performs what is
 -- emitted. Pointers have one width, since the code of a memory helper is that of one width. Own.
-use Rattle.std.specs.Prelude.{ℕ, List}
+use Rattle.std.specs.Prelude.{ℕ, List, length}
 use Rattle.clif_types.specs.declared.target.PointerWidth.{PointerWidth}
 use Rattle.clif_types.specs.Signature.{SignatureShape}
 use Rattle.clif_ir.specs.Body.{Body}
 use Rattle.clif_meaning.specs.Headline.{pointer_bits}
 use Rattle.clif_meaning.specs.Ledger.{empty_ledger}
-use Rattle.clif_meaning.specs.Name.{Name}
+use Rattle.clif_meaning.specs.Name.{Name, answer_of}
 use Rattle.clif_meaning.specs.Request.{AnsweredCall, script_of}
 use Rattle.clif_meaning.specs.Typing.{EdgesMatch}
 use Rattle.clif_meaning.specs.View.{view_of}
@@ -17,7 +17,7 @@ use Rattle.clif_expansion.specs.CallsVerdict.{AreCallsAllowed}
 use Rattle.clif_expansion.specs.JoinedCalls.{AreJoinedCalls}
 use Rattle.clif_expansion.specs.PerformedCalls.{ArePerformed}
 use Rattle.clif_expansion.specs.Reading.{IsReadAs, Reading}
-use Rattle.clif_expansion.specs.ScriptCall.{ScriptCall}
+use Rattle.clif_expansion.specs.ScriptCall.{ScriptCall, ledger_of}
 use Rattle.clif_builder.specs.declared.builder.FunctionBuilder.{FunctionBuilder}
 use Rattle.clif_builder.specs.Ledger.{NamesBlock, NamesValue}
 use Rattle.clif_builder.specs.StandsFor.{StandsFor}
@@ -56,6 +56,14 @@ pub record GoesOn {R : Type 0} {width : PointerWidth} {declared : SignatureShape
 abbrev pub StandsOnFor : {R : Type 0} {width : PointerWidth} {declared : SignatureShape} {calls : List ScriptCall} {old : FunctionBuilder R}
     → StandsForCalls width declared calls old → (later : List ScriptCall) → FunctionBuilder R → Type 0
 StandsOnFor {width = width} {declared = declared} before later new = (after : StandsForCalls width declared later new) × GoesOn before after
+
+-- What the builder answered to the call that was made in between is what the script's names of that call's answers lead to.
+pub record NamesAnswers {R : Type 0} {width : PointerWidth} {declared : SignatureShape} {calls later : List ScriptCall} {old new : FunctionBuilder R}
+    (before : StandsForCalls width declared calls old) (after : StandsForCalls width declared later new) : Type 0 where
+  pub values : (index value : ℕ) → NamesValue after.made (answer_of (length before.made) index) value
+      → LeadsToValue after (answer_of (length (ledger_of calls).answers) index) value
+  pub blocks : (index block : ℕ) → NamesBlock after.made (answer_of (length before.made) index) block
+      → LeadsToBlock after (answer_of (length (ledger_of calls).answers) index) block
 
 -- What `finalize` makes of a builder that stands for the calls of a script: the finished function means what they mean, in every world
 -- under the premises on them; its edges match if the caller's do; and as it was found, values are given before they are used.
