@@ -1,8 +1,8 @@
 //! Functions: their tables, and the calls that read them.
 ghost use Rattle.std.specs.Prelude.{◌≡◌, length, ◌<◌, ◌^◌, IfSome, IsSome, None, EachIndex, All, slice_index};
 ghost use Rattle.clif_ir.specs.Body.{empty_body, empty_function, value_at, inst_at, block_at, resolved, alias_of};
-ghost use Rattle.clif_ir.specs.Consistent.{IsConsistent, EdgeExists};
-ghost use Rattle.clif_instructions.specs.Instruction.{operands, destinations};
+ghost use Rattle.clif_ir.specs.Consistent.{IsConsistent, EdgeExists, ValueExists};
+ghost use Rattle.clif_instructions.specs.Instruction.{contexts, operands, destinations};
 ghost use Rattle.clif_ir.specs.Reading.{def_of, DefExists, param_home};
 
 use clif_instructions::instructions::InstructionData;
@@ -141,6 +141,7 @@ impl Function {
         requires { inst < length self.now.insts }
         ensures exact { result.now ≡ (inst_at self.now inst).shape }
         ensures operands_exist { EachIndex (operands result.now) (λ k. slice_index (operands result.now) k < length self.now.values) }
+        ensures contexts_exist { All (ValueExists self.now) (contexts result.now) }
         ensures edges_exist { All (EdgeExists self.now) (destinations result.now) }
     {
         &self.insts[inst.index()].shape
