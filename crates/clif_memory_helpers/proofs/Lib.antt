@@ -8,3 +8,4 @@ mod LibraryCalls
 mod Plans
 mod Helped
 pub mod HelperLines
+pub mod StandingForCalls

@@ -93,15 +93,17 @@ all_hold P blocks all (node ∷ nodes) are = (λ k d below. All-contains P block
 pub separate : (entries : List (ℕ × ℕ)) (ranges : List CaseRange) → AreRangesOf entries ranges → AreSeparate ranges
 separate entries ranges are = record { filled = are.filled; gaps = are.gaps }
 
+-- an entry of the map is what the map has for its key
+pub entry_found : (cases : CaseMap) (ranges : List CaseRange) → AreRangesOf (finite.entries cases) ranges → (case : ℕ × ℕ) → Contains (finite.entries cases) case
+    → finite.get cases case.0 ≡ Some case.1
+entry_found cases ranges are case here =
+    sym (has_block cases ranges are case.0) ∙ sym (of_ranges case.0 ranges) ∙ ap (of_key case.0) are.cases ∙ case_found (finite.entries cases) ranges are case here
+
 -- what holds of the block of each key holds of the blocks of all cases
 pub each_case : (P : ℕ → Type 0) (cases : CaseMap) (ranges : List CaseRange) → AreRangesOf (finite.entries cases) ranges → ((key block : ℕ) → finite.get cases key ≡ Some block → P block)
     → All P (blocks_of_cases (finite.entries cases))
-each_case P cases ranges are holds = of_list (finite.entries cases) (λ case here. holds case.0 case.1 (found case here))
+each_case P cases ranges are holds = of_list (finite.entries cases) (λ case here. holds case.0 case.1 (entry_found cases ranges are case here))
   where
-    found : (case : ℕ × ℕ) → Contains (finite.entries cases) case → finite.get cases case.0 ≡ Some case.1
-    found case here =
-        sym (has_block cases ranges are case.0) ∙ sym (of_ranges case.0 ranges) ∙ ap (of_key case.0) are.cases ∙ case_found (finite.entries cases) ranges are case here
-
     of_list : (entries : List (ℕ × ℕ)) → ((case : ℕ × ℕ) → Contains entries case → P case.1) → All P (blocks_of_cases entries)
     of_list entries each k d below = of_recursion (blocks_of_cases entries) (over entries each) k d below
       where

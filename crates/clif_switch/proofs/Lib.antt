@@ -18,3 +18,4 @@ mod Counting
 mod Tests
 mod Nodes
 mod Emitted
+mod StandingForCalls

@@ -2,6 +2,7 @@
 #![tactic(auto)]
 
 pub mod emission;
+pub mod laws;
 pub mod switch;
 
 pub use clif_ranges::SwitchError;
