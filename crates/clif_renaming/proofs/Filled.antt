@@ -4,12 +4,13 @@ use Rattle.std.specs.Prelude.{find, fold, if◌then◌else◌, option_map}
 use Rattle.std.specs.List.{list_any}
 use Rattle.std.proofs.lemmas.List.{length_push, map-append}
 use Rattle.clif_meaning.specs.Instruction.{Edge, Operation}
-use Rattle.clif_meaning.specs.Ledger.{BlockState, Ledger, answers_to, changed_by, empty_ledger, is_filled, is_inserted, is_terminator, ledger_after, ledger_with, left_by, new_block, next_answer, redirected_state, sealed, state_has, with_begun, with_begun_at, with_cold_mark, with_filled_at, with_parameter_types, with_predecessor, with_state, with_terminator}
+use Rattle.clif_meaning.specs.Ledger.{BlockState, Ledger, answers_to, changed_by, empty_ledger, is_filled, is_inserted, is_terminator, ledger_after, ledger_with, left_by, new_block, next_answer, redirected_state, sealed, state_has, with_begun, with_begun_at, with_filled_at, with_predecessor, with_state, with_terminator}
 use Rattle.clif_meaning.specs.Name.{Name, answer_of, same_name}
-use Rattle.clif_meaning.specs.Request.{Request, CreateBlock, SwitchToBlock, SealBlock, SealAllBlocks, InsertBlockAfter, SetColdBlock, EnsureInsertedBlock, AppendBlockParams, AppendFunctionParams, DeclareVar, DefVar, UseVar, MakeEntry, MakeEdge, MakeJumpTable, MakeExceptionTable, Annotate, NeedStackMap, Build, ChangeJumpDestination, Finalize, Script}
+use Rattle.clif_meaning.specs.Request.{Request, Script}
 use Rattle.clif_renaming.specs.Renaming.{KeepsApart, renamed_edge}
 use Rattle.clif_renaming.specs.Sealing.{is_sealing, name_left, renamed_request, unsealed, without_seals}
 use Rattle.clif_renaming.proofs.Places.{Follows, follows_at_first, follows_call, follows_here, follows_seal, names_apart}
+use Rattle.clif_renaming.proofs.RenamedEffects.{BothAppend, BothBegin, BothChange, BothCreate, BothEnter, BothHold, BothLead, BothList, BothPut, BothSeal, BothTry, RenamedLedgerEffect, renamed_ledger_effect, Seals, SealsAll, SealsOne, sealing_is}
 use Rattle.clif_renaming.proofs.RenamedNames.{same_renamed}
 
 -- a block, and whether it is filled
@@ -81,7 +82,7 @@ led_kept branch ledger (edge ∷ edges) =
     by state true = refl
     by state false = refl
 
-redirected_kept : (ledger : Ledger) (branch from to : Name) → Keeps ledger (changed_by ledger (ChangeJumpDestination branch from to))
+redirected_kept : (ledger : Ledger) (branch from to : Name) → Keeps ledger (record ledger { blocks = map (redirected_state branch from to) ledger.blocks })
 redirected_kept ledger branch from to = record {
   marks = marks_kept (redirected_state branch from to)
       (λ state. by state (same_name from to) (same_name state.block from) (same_name state.block to) (list_any (same_name branch) state.predecessors)) ledger.blocks;
@@ -98,27 +99,12 @@ redirected_kept ledger branch from to = record {
     by state false false false there = refl
 
 sealing_kept : (ledger : Ledger) (request : Request) → is_sealing request ≡ true → Keeps ledger (changed_by ledger request)
-sealing_kept ledger (SealBlock block) is = state_kept ledger block sealed (λ state. refl)
-sealing_kept ledger SealAllBlocks is = record { marks = marks_kept sealed (λ state. refl) ledger.blocks; current = refl }
-sealing_kept ledger CreateBlock is = let none : ⊥ = cc in absurd none
-sealing_kept ledger (SwitchToBlock block) is = let none : ⊥ = cc in absurd none
-sealing_kept ledger (InsertBlockAfter block after) is = let none : ⊥ = cc in absurd none
-sealing_kept ledger (SetColdBlock block) is = let none : ⊥ = cc in absurd none
-sealing_kept ledger EnsureInsertedBlock is = let none : ⊥ = cc in absurd none
-sealing_kept ledger (AppendBlockParams block types) is = let none : ⊥ = cc in absurd none
-sealing_kept ledger (AppendFunctionParams block types) is = let none : ⊥ = cc in absurd none
-sealing_kept ledger (DeclareVar ty) is = let none : ⊥ = cc in absurd none
-sealing_kept ledger (DefVar variable value) is = let none : ⊥ = cc in absurd none
-sealing_kept ledger (UseVar variable) is = let none : ⊥ = cc in absurd none
-sealing_kept ledger (MakeEntry entry) is = let none : ⊥ = cc in absurd none
-sealing_kept ledger (MakeEdge edge) is = let none : ⊥ = cc in absurd none
-sealing_kept ledger (MakeJumpTable default entries) is = let none : ⊥ = cc in absurd none
-sealing_kept ledger (MakeExceptionTable signature normal items) is = let none : ⊥ = cc in absurd none
-sealing_kept ledger (Annotate inside values) is = let none : ⊥ = cc in absurd none
-sealing_kept ledger (NeedStackMap need) is = let none : ⊥ = cc in absurd none
-sealing_kept ledger (Build entries instruction) is = let none : ⊥ = cc in absurd none
-sealing_kept ledger (ChangeJumpDestination branch from to) is = let none : ⊥ = cc in absurd none
-sealing_kept ledger Finalize is = let none : ⊥ = cc in absurd none
+sealing_kept ledger request is = by (sealing_is request is)
+  where
+    by : Seals request → Keeps ledger (changed_by ledger request)
+    by (SealsOne block same) = subst (λ (r : Request). Keeps ledger (changed_by ledger r)) (sym same) (state_kept ledger block sealed (λ state. refl))
+    by (SealsAll same) =
+        subst (λ (r : Request). Keeps ledger (changed_by ledger r)) (sym same) (record { marks = marks_kept sealed (λ state. refl) ledger.blocks; current = refl })
 
 marks_filled : (states : List BlockState) (block : Name)
     → marks_of (map (λ (state : BlockState). if same_name state.block block then record state { is_filled = true } else state) states) ≡ map (filled_mark block) (marks_of states)
@@ -191,38 +177,46 @@ module _ (rename : Name → Name) (apart : KeepsApart rename) where
       (led_kept branch (with_terminator (with_begun l) operation) edges) (led_kept branch' (with_terminator (with_begun l') operation) edges')
 
   both_changed : (l l' : Ledger) (request : Request) → SameFilled rename l l' → rename (next_answer l) ≡ next_answer l' → SameFilled rename (changed_by l request) (changed_by l' (renamed_request rename request))
-  both_changed l l' CreateBlock same at = record {
-    marks = map-append mark_of l'.blocks (new_block (next_answer l') ∷ [])
-        ∙ ap₂ (λ (marks : List Mark) (block : Name). marks ++ record { block = block; filled = false } ∷ []) same.marks (sym at)
-        ∙ sym (map-append (renamed_mark rename) (marks_of l.blocks) (mark_of (new_block (next_answer l)) ∷ []))
-        ∙ ap (map (renamed_mark rename)) (sym (map-append mark_of l.blocks (new_block (next_answer l) ∷ [])));
-    current = same.current;
-  }
-  both_changed l l' (SwitchToBlock block) same at = record { marks = same.marks; current = refl }
-  both_changed l l' (SealBlock block) same at = both_keep l l' _ _ same (state_kept l block sealed (λ state. refl)) (state_kept l' (rename block) sealed (λ state. refl))
-  both_changed l l' SealAllBlocks same at = both_keep l l' _ _ same (sealing_kept l SealAllBlocks refl) (sealing_kept l' SealAllBlocks refl)
-  both_changed l l' (InsertBlockAfter block after) same at = record { marks = same.marks; current = same.current }
-  both_changed l l' (SetColdBlock block) same at = both_keep l l' _ _ same (state_kept l block with_cold_mark (λ state. refl)) (state_kept l' (rename block) with_cold_mark (λ state. refl))
-  both_changed l l' EnsureInsertedBlock same at = begun_both l l' same
-  both_changed l l' (AppendBlockParams block types) same at =
-      both_keep l l' _ _ same (state_kept l block (with_parameter_types types) (λ state. refl)) (state_kept l' (rename block) (with_parameter_types types) (λ state. refl))
-  both_changed l l' (AppendFunctionParams block types) same at =
-      both_keep l l' _ _ same (state_kept l block (with_parameter_types types) (λ state. refl)) (state_kept l' (rename block) (with_parameter_types types) (λ state. refl))
-  both_changed l l' (DeclareVar ty) same at = record { marks = same.marks; current = same.current }
-  both_changed l l' (DefVar variable value) same at = record { marks = same.marks; current = same.current }
-  both_changed l l' (UseVar variable) same at = let both = begun_both l l' same in record { marks = both.marks; current = both.current }
-  both_changed l l' (MakeEntry entry) same at = record { marks = same.marks; current = same.current }
-  both_changed l l' (MakeEdge edge) same at = same
-  both_changed l l' (MakeJumpTable default entries) same at = record { marks = same.marks; current = same.current }
-  both_changed l l' (MakeExceptionTable signature normal items) same at = record { marks = same.marks; current = same.current }
-  both_changed l l' (Annotate inside values) same at = same
-  both_changed l l' (NeedStackMap need) same at = record { marks = same.marks; current = same.current }
-  both_changed l l' (Build entries instruction) same at =
-      let both = built_both l l' (next_answer l) (next_answer l') instruction.operation instruction.edges (map (renamed_edge rename) instruction.edges) same in
-      record { marks = both.marks; current = both.current }
-  both_changed l l' (ChangeJumpDestination branch from to) same at =
-      both_keep l l' _ _ same (redirected_kept l branch from to) (redirected_kept l' (rename branch) (rename from) (rename to))
-  both_changed l l' Finalize same at = same
+  both_changed l l' request same at = by (renamed_ledger_effect rename request)
+    where
+      -- both by what they do
+      of_ledgers : (m m' : Ledger) → changed_by l request ≡ m → changed_by l' (renamed_request rename request) ≡ m' → SameFilled rename m m'
+          → SameFilled rename (changed_by l request) (changed_by l' (renamed_request rename request))
+      of_ledgers m m' here there both =
+          subst (λ (other : Ledger). SameFilled rename other (changed_by l' (renamed_request rename request))) (sym here)
+          (subst (λ (other : Ledger). SameFilled rename m other) (sym there) both)
+
+      of_request : (other : Request) → request ≡ other → SameFilled rename (changed_by l other) (changed_by l' (renamed_request rename other))
+          → SameFilled rename (changed_by l request) (changed_by l' (renamed_request rename request))
+      of_request other is both = subst (λ (r : Request). SameFilled rename (changed_by l r) (changed_by l' (renamed_request rename r))) (sym is) both
+
+      by : RenamedLedgerEffect rename request → SameFilled rename (changed_by l request) (changed_by l' (renamed_request rename request))
+      by (BothList variables tables here there) = of_ledgers _ _ (here l) (there l') (record { marks = same.marks; current = same.current })
+      by (BothChange block change renamed alike here there) =
+          of_ledgers _ _ (here l) (there l') (both_keep l l' _ _ same
+          (state_kept l block change (λ state i. record { block = alike.name state i; filled = alike.filled state i }))
+          (state_kept l' (rename block) renamed (λ state i. record { block = alike.renamed_name state i; filled = alike.renamed_filled state i })))
+      by (BothBegin variables here there) =
+          let both = begun_both l l' same in of_ledgers _ _ (here l) (there l') (record { marks = both.marks; current = both.current })
+      by (BothSeal seals renamed_seals) =
+          both_keep l l' _ _ same (sealing_kept l request seals) (sealing_kept l' (renamed_request rename request) renamed_seals)
+      by (BothCreate is) =
+          of_request _ is (record {
+            marks = map-append mark_of l'.blocks (new_block (next_answer l') ∷ [])
+                ∙ ap₂ (λ (marks : List Mark) (block : Name). marks ++ record { block = block; filled = false } ∷ []) same.marks (sym at)
+                ∙ sym (map-append (renamed_mark rename) (marks_of l.blocks) (mark_of (new_block (next_answer l)) ∷ []))
+                ∙ ap (map (renamed_mark rename)) (sym (map-append mark_of l.blocks (new_block (next_answer l) ∷ [])));
+            current = same.current;
+          })
+      by (BothEnter block is) = of_request _ is (record { marks = same.marks; current = refl })
+      by (BothPut block after is) = of_request _ is (record { marks = same.marks; current = same.current })
+      by (BothHold default entries is) = of_request _ is (record { marks = same.marks; current = same.current })
+      by (BothTry signature normal items is) = of_request _ is (record { marks = same.marks; current = same.current })
+      by (BothAppend entries instruction is) =
+          let both = built_both l l' (next_answer l) (next_answer l') instruction.operation instruction.edges (map (renamed_edge rename) instruction.edges) same in
+          of_request _ is (record { marks = both.marks; current = both.current })
+      by (BothLead branch from to is) =
+          of_request _ is (both_keep l l' _ _ same (redirected_kept l branch from to) (redirected_kept l' (rename branch) (rename from) (rename to)))
 
   -- after a call that seals, and after another one on both sides
   pub behind_seal : (l l' : Ledger) (request : Request) → is_sealing request ≡ true → SameFilled rename l l' → SameFilled rename (ledger_with l request) l'

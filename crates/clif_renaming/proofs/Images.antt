@@ -3,8 +3,9 @@ use Rattle.std.proofs.Common.{◌≡◌, zero, suc, Bool, true, false, List, [],
 use Rattle.std.specs.Prelude.{Contains, fold, if◌then◌else◌, option_map}
 use Rattle.clif_meaning.specs.Name.{Name, same_name}
 use Rattle.clif_meaning.specs.Program.{Program, Item, empty_program, extended, program_of, redirected_item, with_call, with_inserted, with_item, with_item_at, with_parameters, with_redirected}
-use Rattle.clif_meaning.specs.Request.{Request, CreateBlock, SwitchToBlock, SealBlock, SealAllBlocks, InsertBlockAfter, SetColdBlock, EnsureInsertedBlock, AppendBlockParams, AppendFunctionParams, DeclareVar, DefVar, UseVar, MakeEntry, MakeEdge, MakeJumpTable, MakeExceptionTable, Annotate, NeedStackMap, Build, ChangeJumpDestination, Finalize, Script}
+use Rattle.clif_meaning.specs.Request.{Request, Script}
 use Rattle.clif_renaming.specs.Sealing.{renamed_request}
+use Rattle.clif_renaming.proofs.RenamedEffects.{BothAssign, BothBuild, BothInsert, BothLeave, BothRedirect, BothSwitch, BothTake, BothUse, RenamedProgramEffect, renamed_program_effect}
 use Rattle.clif_renaming.proofs.RenamedNames.{names_equal}
 
 -- RENAMED LISTS ---------------------------------------------------------------------------------------------------------
@@ -99,27 +100,23 @@ module _ (rename : Name → Name) where
   inserted_images p has = record { current = has.current; blocks = has.blocks }
 
   extended_images : (p : Program) (request : Request) → HasImages rename p → HasImages rename (extended p (renamed_request rename request))
-  extended_images p CreateBlock has = has
-  extended_images p (SwitchToBlock block) has = record { current = (Some block, refl); blocks = has.blocks }
-  extended_images p (SealBlock block) has = has
-  extended_images p SealAllBlocks has = has
-  extended_images p (InsertBlockAfter block after) has = has
-  extended_images p (SetColdBlock block) has = has
-  extended_images p EnsureInsertedBlock has = inserted_images p has
-  extended_images p (AppendBlockParams block types) has = parameter_images p block _ has
-  extended_images p (AppendFunctionParams block types) has = parameter_images p block _ has
-  extended_images p (DeclareVar ty) has = has
-  extended_images p (DefVar variable value) has = item_images p _ has
-  extended_images p (UseVar variable) has = item_images (with_inserted p) _ (inserted_images p has)
-  extended_images p (MakeEntry entry) has = has
-  extended_images p (MakeEdge edge) has = has
-  extended_images p (MakeJumpTable default entries) has = has
-  extended_images p (MakeExceptionTable signature normal items) has = has
-  extended_images p (Annotate inside values) has = has
-  extended_images p (NeedStackMap need) has = has
-  extended_images p (Build entries instruction) has = item_images (with_inserted p) _ (inserted_images p has)
-  extended_images p (ChangeJumpDestination branch from to) has = redirected_images p (rename branch) (rename from) (rename to) has
-  extended_images p Finalize has = has
+  extended_images p request has = by (renamed_program_effect rename request)
+    where
+      of_program : (q : Program) → extended p (renamed_request rename request) ≡ q → HasImages rename q → HasImages rename (extended p (renamed_request rename request))
+      of_program q there images = subst (λ (other : Program). HasImages rename other) (sym there) images
+
+      of_request : (other : Request) → request ≡ other → HasImages rename (extended p (renamed_request rename other)) → HasImages rename (extended p (renamed_request rename request))
+      of_request other same images = subst (λ (r : Request). HasImages rename (extended p (renamed_request rename r))) (sym same) images
+
+      by : RenamedProgramEffect rename request → HasImages rename (extended p (renamed_request rename request))
+      by (BothLeave here there) = of_program _ (there p) has
+      by (BothInsert here there) = of_program _ (there p) (inserted_images p has)
+      by (BothTake block types here there) = of_program _ (there p) (parameter_images p block _ has)
+      by (BothSwitch block same) = of_request _ same (record { current = (Some block, refl); blocks = has.blocks })
+      by (BothAssign variable value same) = of_request _ same (item_images p _ has)
+      by (BothUse variable same) = of_request _ same (item_images (with_inserted p) _ (inserted_images p has))
+      by (BothBuild entries instruction same) = of_request _ same (item_images (with_inserted p) _ (inserted_images p has))
+      by (BothRedirect branch from to here there) = of_program _ (there p) (redirected_images p (rename branch) (rename from) (rename to) has)
 
   -- one more call
   pub images_after : (p : Program) (request : Request) → HasImages rename p → HasImages rename (with_call p (renamed_request rename request))

@@ -3,15 +3,14 @@ use Rattle.std.proofs.Common.{◌≡◌, ◌+◌, ◌≤◌, ℕ, zero, suc, Boo
 use Rattle.std.specs.Prelude.{fold, slice_get, option_and_then, option_map, if◌then◌else◌}
 use Rattle.std.proofs.lemmas.List.{map-append}
 use Rattle.clif_types.specs.declared.types.«Type».{«Type»}
-use Rattle.clif_tables.specs.Entries.{with_entry}
-use Rattle.clif_tables.specs.Lists.{TableLists}
 use Rattle.clif_meaning.specs.Instruction.{Edge, Operation}
-use Rattle.clif_meaning.specs.Ledger.{Answered, or_invalid, Ledger, VariableState, answer_at, answers_to, changed_by, empty_ledger, is_inserted, is_terminator, ledger_after, ledger_with, new_variable, next_answer, touched_at, with_begun, with_begun_at, with_filled_at, with_predecessor, with_terminator, value_answer_type, marked_at, with_need}
+use Rattle.clif_meaning.specs.Ledger.{Answered, or_invalid, Ledger, VariableState, answer_at, answers_to, changed_by, empty_ledger, is_inserted, is_terminator, ledger_after, ledger_with, next_answer, with_begun, with_begun_at, with_filled_at, with_predecessor, with_terminator, value_answer_type}
 use Rattle.clif_meaning.specs.Name.{Name}
-use Rattle.clif_meaning.specs.Request.{Request, CreateBlock, SwitchToBlock, SealBlock, SealAllBlocks, InsertBlockAfter, SetColdBlock, EnsureInsertedBlock, AppendBlockParams, AppendFunctionParams, DeclareVar, DefVar, UseVar, MakeEntry, MakeEdge, MakeJumpTable, MakeExceptionTable, Annotate, NeedStackMap, Build, ChangeJumpDestination, Finalize, Script, StackMapNeed, OfVariable, OfValue}
+use Rattle.clif_meaning.specs.Request.{Request, UseVar, Script}
 use Rattle.clif_renaming.specs.Renaming.{renamed_edge}
-use Rattle.clif_renaming.specs.Sealing.{is_sealing, name_left, place_left, renamed_request, unsealed, without_seals, renamed_need}
+use Rattle.clif_renaming.specs.Sealing.{is_sealing, name_left, place_left, renamed_request, unsealed, without_seals}
 use Rattle.clif_renaming.proofs.Places.{left_at, place_of_left, place_of_sealing, rank, rank_next}
+use Rattle.clif_renaming.proofs.RenamedEffects.{BothAppend, BothBegin, BothChange, BothCreate, BothEnter, BothHold, BothLead, BothList, BothPut, BothSeal, BothTry, RenamedLedgerEffect, renamed_ledger_effect, Seals, SealsAll, SealsOne, sealing_is}
 
 -- VARIABLES AND TABLES --------------------------------------------------------------------------------------------------
 
@@ -58,93 +57,60 @@ both_kept l l' m m' same kept kept' = record {
 }
 
 -- a call that seals changes neither
-sealing_keeps : (ledger : Ledger) (request : Request) → is_sealing request ≡ true → SameTables ledger (ledger_with ledger request)
-sealing_keeps ledger (SealBlock block) is = record { variables = refl; tables = refl }
-sealing_keeps ledger SealAllBlocks is = record { variables = refl; tables = refl }
-sealing_keeps ledger CreateBlock is = let none : ⊥ = cc in absurd none
-sealing_keeps ledger (SwitchToBlock block) is = let none : ⊥ = cc in absurd none
-sealing_keeps ledger (InsertBlockAfter block after) is = let none : ⊥ = cc in absurd none
-sealing_keeps ledger (SetColdBlock block) is = let none : ⊥ = cc in absurd none
-sealing_keeps ledger EnsureInsertedBlock is = let none : ⊥ = cc in absurd none
-sealing_keeps ledger (AppendBlockParams block types) is = let none : ⊥ = cc in absurd none
-sealing_keeps ledger (AppendFunctionParams block types) is = let none : ⊥ = cc in absurd none
-sealing_keeps ledger (DeclareVar ty) is = let none : ⊥ = cc in absurd none
-sealing_keeps ledger (DefVar variable value) is = let none : ⊥ = cc in absurd none
-sealing_keeps ledger (UseVar variable) is = let none : ⊥ = cc in absurd none
-sealing_keeps ledger (MakeEntry entry) is = let none : ⊥ = cc in absurd none
-sealing_keeps ledger (MakeEdge edge) is = let none : ⊥ = cc in absurd none
-sealing_keeps ledger (MakeJumpTable default entries) is = let none : ⊥ = cc in absurd none
-sealing_keeps ledger (MakeExceptionTable signature normal items) is = let none : ⊥ = cc in absurd none
-sealing_keeps ledger (Annotate inside values) is = let none : ⊥ = cc in absurd none
-sealing_keeps ledger (NeedStackMap need) is = let none : ⊥ = cc in absurd none
-sealing_keeps ledger (Build entries instruction) is = let none : ⊥ = cc in absurd none
-sealing_keeps ledger (ChangeJumpDestination branch from to) is = let none : ⊥ = cc in absurd none
-sealing_keeps ledger Finalize is = let none : ⊥ = cc in absurd none
+sealing_keeps : (ledger : Ledger) (request : Request) → is_sealing request ≡ true → SameTables ledger (changed_by ledger request)
+sealing_keeps ledger request is = by (sealing_is request is)
+  where
+    by : Seals request → SameTables ledger (changed_by ledger request)
+    by (SealsOne block same) = subst (λ (r : Request). SameTables ledger (changed_by ledger r)) (sym same) (record { variables = refl; tables = refl })
+    by (SealsAll same) = subst (λ (r : Request). SameTables ledger (changed_by ledger r)) (sym same) (record { variables = refl; tables = refl })
 
 -- the types of answers: an answer that is no value has none
 abbrev pub types_of : List Answered → List (Option «Type»)
 types_of answers = map (λ answer. value_answer_type (Some answer)) answers
 
 module _ (rename : Name → Name) (l l' : Ledger) (same : SameTables l l') where
-  both_needed : (need : StackMapNeed) → with_need (renamed_need rename need) l'.variables ≡ with_need need l.variables
-  both_needed (OfVariable variable) = ap (marked_at variable) same.variables
-  both_needed (OfValue value) = same.variables
-
   -- a call and the same call renamed change both alike
   both_changed : (request : Request) → SameTables (changed_by l request) (changed_by l' (renamed_request rename request))
-  both_changed CreateBlock = record { variables = same.variables; tables = same.tables }
-  both_changed (SwitchToBlock block) = record { variables = same.variables; tables = same.tables }
-  both_changed (SealBlock block) = record { variables = same.variables; tables = same.tables }
-  both_changed SealAllBlocks = record { variables = same.variables; tables = same.tables }
-  both_changed (InsertBlockAfter block after) = record { variables = same.variables; tables = same.tables }
-  both_changed (SetColdBlock block) = record { variables = same.variables; tables = same.tables }
-  both_changed EnsureInsertedBlock = both_kept l l' _ _ same (begun l l.current) (begun l' l'.current)
-  both_changed (AppendBlockParams block types) = record { variables = same.variables; tables = same.tables }
-  both_changed (AppendFunctionParams block types) = record { variables = same.variables; tables = same.tables }
-  both_changed (DeclareVar ty) = record { variables = ap (λ (states : List VariableState). states ++ new_variable ty ∷ []) same.variables; tables = same.tables }
-  both_changed (DefVar variable value) = record { variables = ap (touched_at variable) same.variables; tables = same.tables }
-  both_changed (UseVar variable) =
-      let both = both_kept l l' (with_begun l) (with_begun l') same (begun l l.current) (begun l' l'.current) in
-      record { variables = ap (touched_at variable) both.variables; tables = both.tables }
-  both_changed (MakeEntry entry) = record { variables = same.variables; tables = ap (λ (tables : TableLists). with_entry tables entry) same.tables }
-  both_changed (MakeEdge edge) = record { variables = same.variables; tables = same.tables }
-  both_changed (MakeJumpTable default entries) = record { variables = same.variables; tables = same.tables }
-  both_changed (MakeExceptionTable signature normal items) = record { variables = same.variables; tables = same.tables }
-  both_changed (Annotate inside values) = record { variables = same.variables; tables = same.tables }
-  both_changed (NeedStackMap need) = record { variables = both_needed need; tables = same.tables }
-  both_changed (Build entries instruction) =
-      let both = both_kept l l' _ _ same (built (next_answer l) l instruction.operation instruction.edges)
-      (built (next_answer l') l' instruction.operation (map (renamed_edge rename) instruction.edges)) in
-      record { variables = both.variables; tables = both.tables }
-  both_changed (ChangeJumpDestination branch from to) = record { variables = same.variables; tables = same.tables }
-  both_changed Finalize = record { variables = same.variables; tables = same.tables }
+  both_changed request = by (renamed_ledger_effect rename request)
+    where
+      -- both by what they do
+      of_ledgers : (m m' : Ledger) → changed_by l request ≡ m → changed_by l' (renamed_request rename request) ≡ m' → SameTables m m'
+          → SameTables (changed_by l request) (changed_by l' (renamed_request rename request))
+      of_ledgers m m' here there both =
+          subst (λ (other : Ledger). SameTables other (changed_by l' (renamed_request rename request))) (sym here)
+          (subst (λ (other : Ledger). SameTables m other) (sym there) both)
+
+      of_request : (other : Request) → request ≡ other → SameTables (changed_by l other) (changed_by l' (renamed_request rename other))
+          → SameTables (changed_by l request) (changed_by l' (renamed_request rename request))
+      of_request other is both = subst (λ (r : Request). SameTables (changed_by l r) (changed_by l' (renamed_request rename r))) (sym is) both
+
+      by : RenamedLedgerEffect rename request → SameTables (changed_by l request) (changed_by l' (renamed_request rename request))
+      by (BothList variables tables here there) =
+          of_ledgers _ _ (here l) (there l') (record { variables = ap variables same.variables; tables = ap tables same.tables })
+      by (BothChange block change renamed alike here there) = of_ledgers _ _ (here l) (there l') (record { variables = same.variables; tables = same.tables })
+      by (BothBegin variables here there) =
+          let both = both_kept l l' (with_begun l) (with_begun l') same (begun l l.current) (begun l' l'.current) in
+          of_ledgers _ _ (here l) (there l') (record { variables = ap variables both.variables; tables = both.tables })
+      by (BothSeal seals renamed_seals) =
+          both_kept l l' _ _ same (sealing_keeps l request seals) (sealing_keeps l' (renamed_request rename request) renamed_seals)
+      by (BothCreate is) = of_request _ is (record { variables = same.variables; tables = same.tables })
+      by (BothEnter block is) = of_request _ is (record { variables = same.variables; tables = same.tables })
+      by (BothPut block after is) = of_request _ is (record { variables = same.variables; tables = same.tables })
+      by (BothHold default entries is) = of_request _ is (record { variables = same.variables; tables = same.tables })
+      by (BothTry signature normal items is) = of_request _ is (record { variables = same.variables; tables = same.tables })
+      by (BothAppend entries instruction is) =
+          let both = both_kept l l' _ _ same (built (next_answer l) l instruction.operation instruction.edges)
+          (built (next_answer l') l' instruction.operation (map (renamed_edge rename) instruction.edges)) in
+          of_request _ is (record { variables = both.variables; tables = both.tables })
+      by (BothLead branch from to is) = of_request _ is (record { variables = same.variables; tables = same.tables })
 
   pub both_after : (request : Request) → SameTables (ledger_with l request) (ledger_with l' (renamed_request rename request))
   both_after request = let both = both_changed request in record { variables = both.variables; tables = both.tables }
 
   -- and have answers of the same types
   pub answered_alike : (request : Request) → types_of (answers_to l' (renamed_request rename request)) ≡ types_of (answers_to l request)
-  answered_alike CreateBlock = refl
-  answered_alike (SwitchToBlock block) = refl
-  answered_alike (SealBlock block) = refl
-  answered_alike SealAllBlocks = refl
-  answered_alike (InsertBlockAfter block after) = refl
-  answered_alike (SetColdBlock block) = refl
-  answered_alike EnsureInsertedBlock = refl
-  answered_alike (AppendBlockParams block types) = refl
-  answered_alike (AppendFunctionParams block types) = refl
-  answered_alike (DeclareVar ty) = refl
-  answered_alike (DefVar variable value) = refl
   answered_alike (UseVar variable) = ap (λ (states : List VariableState). Some (or_invalid (option_map (λ (state : VariableState). state.ty) (slice_get states variable))) ∷ []) same.variables
-  answered_alike (MakeEntry entry) = refl
-  answered_alike (MakeEdge edge) = refl
-  answered_alike (MakeJumpTable default entries) = refl
-  answered_alike (MakeExceptionTable signature normal items) = refl
-  answered_alike (Annotate inside values) = refl
-  answered_alike (NeedStackMap need) = refl
-  answered_alike (Build entries instruction) = refl
-  answered_alike (ChangeJumpDestination branch from to) = refl
-  answered_alike Finalize = refl
+  answered_alike _ = refl
 
 -- ANSWERS ---------------------------------------------------------------------------------------------------------------
 
@@ -212,30 +178,15 @@ none_behind (request ∷ script) (x ∷ xs) (suc place) behind =
 pub no_answer : (script : Script) (ledger : Ledger) (place index : ℕ) → left_at script place ≡ false
     → option_and_then (λ (types : List (Option «Type»)). slice_get types index) (slice_get (answers_along ledger script) place) ≡ None
 no_answer [] ledger place index sealing = refl
-no_answer (request ∷ script) ledger zero index sealing = by request sealing
+no_answer (request ∷ script) ledger zero index sealing = by (sealing_is request (not_not (is_sealing request) sealing))
   where
-    by : (request : Request) → not (is_sealing request) ≡ false → slice_get (types_of (answers_to ledger request)) index ≡ None
-    by (SealBlock block) is = refl
-    by SealAllBlocks is = refl
-    by CreateBlock is = let none : ⊥ = cc in absurd none
-    by (SwitchToBlock block) is = let none : ⊥ = cc in absurd none
-    by (InsertBlockAfter block after) is = let none : ⊥ = cc in absurd none
-    by (SetColdBlock block) is = let none : ⊥ = cc in absurd none
-    by EnsureInsertedBlock is = let none : ⊥ = cc in absurd none
-    by (AppendBlockParams block types) is = let none : ⊥ = cc in absurd none
-    by (AppendFunctionParams block types) is = let none : ⊥ = cc in absurd none
-    by (DeclareVar ty) is = let none : ⊥ = cc in absurd none
-    by (DefVar variable value) is = let none : ⊥ = cc in absurd none
-    by (UseVar variable) is = let none : ⊥ = cc in absurd none
-    by (MakeEntry entry) is = let none : ⊥ = cc in absurd none
-    by (MakeEdge edge) is = let none : ⊥ = cc in absurd none
-    by (MakeJumpTable default entries) is = let none : ⊥ = cc in absurd none
-    by (MakeExceptionTable signature normal items) is = let none : ⊥ = cc in absurd none
-    by (Annotate inside values) is = let none : ⊥ = cc in absurd none
-    by (NeedStackMap need) is = let none : ⊥ = cc in absurd none
-    by (Build entries instruction) is = let none : ⊥ = cc in absurd none
-    by (ChangeJumpDestination branch from to) is = let none : ⊥ = cc in absurd none
-    by Finalize is = let none : ⊥ = cc in absurd none
+    not_not : (c : Bool) → not c ≡ false → c ≡ true
+    not_not true is = refl
+    not_not false is = let none : ⊥ = cc in absurd none
+
+    by : Seals request → slice_get (types_of (answers_to ledger request)) index ≡ None
+    by (SealsOne block same) = ap (λ (r : Request). slice_get (types_of (answers_to ledger r)) index) same
+    by (SealsAll same) = ap (λ (r : Request). slice_get (types_of (answers_to ledger r)) index) same
 no_answer (request ∷ script) ledger (suc place) index sealing = no_answer script (ledger_with ledger request) place index sealing
 
 -- The renamed calls that are left have their answers, and variables and tables become the same.

@@ -12,3 +12,4 @@ pub mod StepPremises
 pub mod Sealing
 pub mod Premises
 pub mod RenamingRow
+pub mod RenamedEffects

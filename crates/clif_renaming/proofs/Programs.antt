@@ -6,11 +6,12 @@ use Rattle.clif_types.specs.declared.types.«Type».{«Type»}
 use Rattle.clif_meaning.specs.Name.{Name, answer_of, same_name}
 use Rattle.clif_meaning.specs.Instruction.{Edge, Instruction}
 use Rattle.clif_meaning.specs.Program.{Program, Item, Instruct, Use, Assign, answers_from, empty_program, extended, first_block, program_of, redirected_edge, redirected_instruction, redirected_item, result_types, with_call, with_inserted, with_item, with_item_at, with_parameters, with_redirected}
-use Rattle.clif_meaning.specs.Request.{Request, CreateBlock, SwitchToBlock, SealBlock, SealAllBlocks, InsertBlockAfter, SetColdBlock, EnsureInsertedBlock, AppendBlockParams, AppendFunctionParams, DeclareVar, DefVar, UseVar, MakeEntry, MakeEdge, MakeJumpTable, MakeExceptionTable, Annotate, NeedStackMap, Build, ChangeJumpDestination, Finalize, Script}
+use Rattle.clif_meaning.specs.Request.{Request, Script}
 use Rattle.std.specs.List.{AllZip}
 use Rattle.clif_renaming.specs.Renaming.{AreRenamedItems, IsRenamedItem, IsRenamedProgram, KeepsApart, renamed_edge, renamed_instruction}
 use Rattle.clif_renaming.specs.Sealing.{is_sealing, name_left, renamed_request, unsealed, without_seals}
 use Rattle.clif_renaming.proofs.Places.{Follows, follows_at_first, follows_call, follows_here, follows_seal, names_apart}
+use Rattle.clif_renaming.proofs.RenamedEffects.{BothAssign, BothBuild, BothInsert, BothLeave, BothRedirect, BothSwitch, BothTake, BothUse, RenamedProgramEffect, renamed_program_effect, Seals, SealsAll, SealsOne, sealing_is}
 use Rattle.clif_renaming.proofs.RenamedNames.{same_renamed}
 
 -- the place at which an instruction was built is renamed too
@@ -173,57 +174,44 @@ module _ (rename : Name → Name) (apart : KeepsApart rename) where
   -- what one more call adds, that doesn't seal
   extended_both : (p p' : Program) (request : Request) → IsRenamedSoFar rename p p' → ((index : ℕ) → rename (answer_of p.place index) ≡ answer_of p'.place index)
       → IsRenamedSoFar rename (extended p request) (extended p' (renamed_request rename request))
-  extended_both p p' CreateBlock is at = is
-  extended_both p p' (SwitchToBlock block) is at = record {
-    current = refl;
-    program = record { entry = is.program.entry; parameters = is.program.parameters; items = is.program.items };
-    places = is.places;
-  }
-  extended_both p p' (SealBlock block) is at = is
-  extended_both p p' SealAllBlocks is at = is
-  extended_both p p' (InsertBlockAfter block after) is at = is
-  extended_both p p' (SetColdBlock block) is at = is
-  extended_both p p' EnsureInsertedBlock is at = inserted p p' is
-  extended_both p p' (AppendBlockParams block types) is at = parameters_more p p' block _ _ is (answers_renamed p.place p'.place at 0 types)
-  extended_both p p' (AppendFunctionParams block types) is at = parameters_more p p' block _ _ is (answers_renamed p.place p'.place at 0 types)
-  extended_both p p' (DeclareVar ty) is at = is
-  extended_both p p' (DefVar variable value) is at = item_more p p' _ _ is (refl, refl) tt
-  extended_both p p' (UseVar variable) is at = item_more (with_inserted p) (with_inserted p') _ _ (inserted p p' is) (refl, sym (at 0)) tt
-  extended_both p p' (MakeEntry entry) is at = is
-  extended_both p p' (MakeEdge edge) is at = is
-  extended_both p p' (MakeJumpTable default entries) is at = is
-  extended_both p p' (MakeExceptionTable signature normal items) is at = is
-  extended_both p p' (Annotate inside values) is at = is
-  extended_both p p' (NeedStackMap need) is at = is
-  extended_both p p' (Build entries instruction) is at =
-      item_more (with_inserted p) (with_inserted p') _ _ (inserted p p' is)
-      (refl, answers_renamed p.place p'.place at 1 (result_types instruction.operation instruction.controlling)) (at 0)
-  extended_both p p' (ChangeJumpDestination branch from to) is at = redirected_programs p p' branch from to is
-  extended_both p p' Finalize is at = is
+  extended_both p p' request is at = by (renamed_program_effect rename request)
+    where
+      -- both by what they do
+      of_programs : (q q' : Program) → extended p request ≡ q → extended p' (renamed_request rename request) ≡ q' → IsRenamedSoFar rename q q'
+          → IsRenamedSoFar rename (extended p request) (extended p' (renamed_request rename request))
+      of_programs q q' here there both =
+          subst (λ (other : Program). IsRenamedSoFar rename other (extended p' (renamed_request rename request))) (sym here)
+          (subst (λ (other : Program). IsRenamedSoFar rename q other) (sym there) both)
+
+      of_request : (other : Request) → request ≡ other → IsRenamedSoFar rename (extended p other) (extended p' (renamed_request rename other))
+          → IsRenamedSoFar rename (extended p request) (extended p' (renamed_request rename request))
+      of_request other same both = subst (λ (r : Request). IsRenamedSoFar rename (extended p r) (extended p' (renamed_request rename r))) (sym same) both
+
+      by : RenamedProgramEffect rename request → IsRenamedSoFar rename (extended p request) (extended p' (renamed_request rename request))
+      by (BothLeave here there) = of_programs _ _ (here p) (there p') is
+      by (BothInsert here there) = of_programs _ _ (here p) (there p') (inserted p p' is)
+      by (BothTake block types here there) =
+          of_programs _ _ (here p) (there p') (parameters_more p p' block _ _ is (answers_renamed p.place p'.place at 0 types))
+      by (BothSwitch block same) =
+          of_request _ same (record {
+            current = refl;
+            program = record { entry = is.program.entry; parameters = is.program.parameters; items = is.program.items };
+            places = is.places;
+          })
+      by (BothAssign variable value same) = of_request _ same (item_more p p' _ _ is (refl, refl) tt)
+      by (BothUse variable same) = of_request _ same (item_more (with_inserted p) (with_inserted p') _ _ (inserted p p' is) (refl, sym (at 0)) tt)
+      by (BothBuild entries instruction same) =
+          of_request _ same (item_more (with_inserted p) (with_inserted p') _ _ (inserted p p' is)
+          (refl, answers_renamed p.place p'.place at 1 (result_types instruction.operation instruction.controlling)) (at 0))
+      by (BothRedirect branch from to here there) = of_programs _ _ (here p) (there p') (redirected_programs p p' branch from to is)
 
   -- a call that seals adds nothing
   sealing_adds_nothing : (p : Program) (request : Request) → is_sealing request ≡ true → extended p request ≡ p
-  sealing_adds_nothing p (SealBlock block) is = refl
-  sealing_adds_nothing p SealAllBlocks is = refl
-  sealing_adds_nothing p CreateBlock is = let none : ⊥ = cc in absurd none
-  sealing_adds_nothing p (SwitchToBlock block) is = let none : ⊥ = cc in absurd none
-  sealing_adds_nothing p (InsertBlockAfter block after) is = let none : ⊥ = cc in absurd none
-  sealing_adds_nothing p (SetColdBlock block) is = let none : ⊥ = cc in absurd none
-  sealing_adds_nothing p EnsureInsertedBlock is = let none : ⊥ = cc in absurd none
-  sealing_adds_nothing p (AppendBlockParams block types) is = let none : ⊥ = cc in absurd none
-  sealing_adds_nothing p (AppendFunctionParams block types) is = let none : ⊥ = cc in absurd none
-  sealing_adds_nothing p (DeclareVar ty) is = let none : ⊥ = cc in absurd none
-  sealing_adds_nothing p (DefVar variable value) is = let none : ⊥ = cc in absurd none
-  sealing_adds_nothing p (UseVar variable) is = let none : ⊥ = cc in absurd none
-  sealing_adds_nothing p (MakeEntry entry) is = let none : ⊥ = cc in absurd none
-  sealing_adds_nothing p (MakeEdge edge) is = let none : ⊥ = cc in absurd none
-  sealing_adds_nothing p (MakeJumpTable default entries) is = let none : ⊥ = cc in absurd none
-  sealing_adds_nothing p (MakeExceptionTable signature normal items) is = let none : ⊥ = cc in absurd none
-  sealing_adds_nothing p (Annotate inside values) is = let none : ⊥ = cc in absurd none
-  sealing_adds_nothing p (NeedStackMap need) is = let none : ⊥ = cc in absurd none
-  sealing_adds_nothing p (Build entries instruction) is = let none : ⊥ = cc in absurd none
-  sealing_adds_nothing p (ChangeJumpDestination branch from to) is = let none : ⊥ = cc in absurd none
-  sealing_adds_nothing p Finalize is = let none : ⊥ = cc in absurd none
+  sealing_adds_nothing p request is = by (sealing_is request is)
+    where
+      by : Seals request → extended p request ≡ p
+      by (SealsOne block same) = ap (extended p) same
+      by (SealsAll same) = ap (extended p) same
 
   -- the place aside
   pub placed : (p p' : Program) (n n' : ℕ) → IsRenamedSoFar rename p p' → IsRenamedSoFar rename (record p { place = n }) (record p' { place = n' })

@@ -5,12 +5,13 @@ use Rattle.std.specs.List.{list_any}
 use Rattle.std.proofs.lemmas.List.{map-append}
 use Rattle.clif_meaning.specs.Ledger.{Ledger, VariableState, is_marked, ledger_after, marked}
 use Rattle.clif_meaning.specs.Name.{Name, answer_of, same_name}
-use Rattle.clif_meaning.specs.Request.{Request, CreateBlock, SwitchToBlock, SealBlock, SealAllBlocks, InsertBlockAfter, SetColdBlock, EnsureInsertedBlock, AppendBlockParams, AppendFunctionParams, DeclareVar, DefVar, UseVar, MakeEntry, MakeEdge, MakeJumpTable, MakeExceptionTable, Annotate, NeedStackMap, Build, ChangeJumpDestination, Finalize, Script, OfVariable, OfValue}
+use Rattle.clif_meaning.specs.Request.{Request, DefVar, UseVar, NeedStackMap, Script, OfVariable}
 use Rattle.clif_meaning.specs.Tracked.{is_tracked, tracked_by, tracked_from, tracked_names}
 use Rattle.clif_renaming.specs.Renaming.{KeepsApart}
 use Rattle.clif_renaming.specs.Sealing.{is_sealing, name_left, renamed_request, unsealed, without_seals}
 use Rattle.clif_renaming.proofs.Ledgers.{unsealed_tables}
 use Rattle.clif_renaming.proofs.Places.{Follows, follows_at_first, follows_call, follows_here, follows_seal, names_apart}
+use Rattle.clif_renaming.proofs.RenamedEffects.{Seals, SealsAll, SealsOne, sealing_is}
 use Rattle.clif_renaming.proofs.RenamedNames.{same_renamed}
 
 -- renamed names hold the renamed name where the names hold the name
@@ -23,16 +24,6 @@ module _ (rename : Name → Name) (ledger ledger' : Ledger) (same : (variable : 
   -- what one call tracks
   pub tracked_both : (request : Request) (place place' : ℕ) → ((index : ℕ) → rename (answer_of place index) ≡ answer_of place' index)
       → tracked_by ledger' place' (renamed_request rename request) ≡ map rename (tracked_by ledger place request)
-  tracked_both CreateBlock place place' at = refl
-  tracked_both (SwitchToBlock block) place place' at = refl
-  tracked_both (SealBlock block) place place' at = refl
-  tracked_both SealAllBlocks place place' at = refl
-  tracked_both (InsertBlockAfter block after) place place' at = refl
-  tracked_both (SetColdBlock block) place place' at = refl
-  tracked_both EnsureInsertedBlock place place' at = refl
-  tracked_both (AppendBlockParams block types) place place' at = refl
-  tracked_both (AppendFunctionParams block types) place place' at = refl
-  tracked_both (DeclareVar ty) place place' at = refl
   tracked_both (DefVar variable value) place place' at =
       ap (λ (c : Bool). if c then rename value ∷ [] else []) (same variable) ∙ by (is_marked ledger variable)
     where
@@ -45,40 +36,16 @@ module _ (rename : Name → Name) (ledger ledger' : Ledger) (same : (variable : 
       by : (c : Bool) → (if c then rename (answer_of place 0) ∷ [] else []) ≡ map rename (if c then answer_of place 0 ∷ [] else [])
       by true = refl
       by false = refl
-  tracked_both (MakeEntry entry) place place' at = refl
-  tracked_both (MakeEdge edge) place place' at = refl
-  tracked_both (MakeJumpTable default entries) place place' at = refl
-  tracked_both (MakeExceptionTable signature normal items) place place' at = refl
-  tracked_both (Annotate inside values) place place' at = refl
   tracked_both (NeedStackMap (OfVariable variable)) place place' at = refl
-  tracked_both (NeedStackMap (OfValue value)) place place' at = refl
-  tracked_both (Build entries instruction) place place' at = refl
-  tracked_both (ChangeJumpDestination branch from to) place place' at = refl
-  tracked_both Finalize place place' at = refl
+  tracked_both _ place place' at = refl
 
   -- a call that seals tracks nothing
   pub sealing_tracks_none : (request : Request) (place : ℕ) → is_sealing request ≡ true → tracked_by ledger place request ≡ []
-  sealing_tracks_none (SealBlock block) place is = refl
-  sealing_tracks_none SealAllBlocks place is = refl
-  sealing_tracks_none CreateBlock place is = refl
-  sealing_tracks_none (SwitchToBlock block) place is = refl
-  sealing_tracks_none (InsertBlockAfter block after) place is = refl
-  sealing_tracks_none (SetColdBlock block) place is = refl
-  sealing_tracks_none EnsureInsertedBlock place is = refl
-  sealing_tracks_none (AppendBlockParams block types) place is = refl
-  sealing_tracks_none (AppendFunctionParams block types) place is = refl
-  sealing_tracks_none (DeclareVar ty) place is = refl
-  sealing_tracks_none (DefVar variable value) place is = let none : ⊥ = cc in absurd none
-  sealing_tracks_none (UseVar variable) place is = let none : ⊥ = cc in absurd none
-  sealing_tracks_none (MakeEntry entry) place is = refl
-  sealing_tracks_none (MakeEdge edge) place is = refl
-  sealing_tracks_none (MakeJumpTable default entries) place is = refl
-  sealing_tracks_none (MakeExceptionTable signature normal items) place is = refl
-  sealing_tracks_none (Annotate inside values) place is = refl
-  sealing_tracks_none (NeedStackMap need) place is = let none : ⊥ = cc in absurd none
-  sealing_tracks_none (Build entries instruction) place is = refl
-  sealing_tracks_none (ChangeJumpDestination branch from to) place is = refl
-  sealing_tracks_none Finalize place is = refl
+  sealing_tracks_none request place is = by (sealing_is request is)
+    where
+      by : Seals request → tracked_by ledger place request ≡ []
+      by (SealsOne block same) = ap (tracked_by ledger place) same
+      by (SealsAll same) = ap (tracked_by ledger place) same
 
   abbrev TracksRenamed : Script → Type 0
   TracksRenamed script = (place place' : ℕ) → Follows rename script place place'
