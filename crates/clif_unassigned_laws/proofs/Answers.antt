@@ -5,7 +5,8 @@ use Rattle.std.specs.List.{AllByRecursion}
 use Rattle.clif_types.specs.declared.types.«Type».{«Type»}
 use Rattle.clif_meaning.specs.Name.{Name, answer_of, same_name}
 use Rattle.clif_meaning.specs.Program.{Assign, Instruct, Item, Program, Use, answers_from, empty_program, extended, program_of, redirected_item, result_types, with_call, with_inserted, with_item_at, with_parameters}
-use Rattle.clif_meaning.specs.Request.{Annotate, AppendBlockParams, AppendFunctionParams, Build, ChangeJumpDestination, CreateBlock, DeclareVar, DefVar, EnsureInsertedBlock, Finalize, InsertBlockAfter, MakeEdge, MakeEntry, MakeExceptionTable, MakeJumpTable, NeedStackMap, Request, Script, SealAllBlocks, SealBlock, SetColdBlock, SwitchToBlock, UseVar}
+use Rattle.clif_meaning.specs.Request.{Build, Request, Script, UseVar}
+use Rattle.clif_meaning.proofs.Effects.{Assigns, Builds, Inserts, Leaves, MakesNoParameter, ProgramEffect, Redirects, Switches, Takes, Uses, program_effect}
 
 -- the call is there, and is no use
 abbrev pub IsNoUse : Option Request → Type 0
@@ -70,37 +71,43 @@ module _ (script : Script) where
   no_use : (place : ℕ) (request : Request) → slice_get script place ≡ Some request → IsNoUse (Some request) → IsNoUse (slice_get script place)
   no_use place request there is = subst IsNoUse (sym there) is
 
+  -- what makes parameters is no use
+  takes_no_use : (request : Request) → (MakesNoParameter request → ⊥) → IsNoUse (Some request)
+  takes_no_use (UseVar variable) makes = makes tt
+  takes_no_use _ makes = tt
+
   one_more : (program : Program) (request : Request) → slice_get script program.place ≡ Some request → AllAnswerRight program → AllAnswerRight (extended program request)
-  one_more program CreateBlock there right = right
-  one_more program (SwitchToBlock block) there right = record { items = right.items; parameters = right.parameters }
-  one_more program (SealBlock block) there right = right
-  one_more program SealAllBlocks there right = right
-  one_more program (InsertBlockAfter block after) there right = right
-  one_more program (SetColdBlock block) there right = right
-  one_more program EnsureInsertedBlock there right = inserted program right
-  one_more program (AppendBlockParams block types) there right =
-      more_parameters program block (answers_from program.place 0 types) right (no_answers program.place 0 types (no_use program.place (AppendBlockParams block types) there tt))
-  one_more program (AppendFunctionParams block types) there right =
-      more_parameters program block (answers_from program.place 0 types) right (no_answers program.place 0 types (no_use program.place (AppendFunctionParams block types) there tt))
-  one_more program (DeclareVar ty) there right = right
-  one_more program (DefVar variable value) there right = item_at program program.current (Assign variable value) right tt
-  one_more program (UseVar variable) there right =
-      item_at (with_inserted program) program.current (Use variable (answer_of program.place 0)) (inserted program right) there
-  one_more program (MakeEntry entry) there right = right
-  one_more program (MakeEdge edge) there right = right
-  one_more program (MakeJumpTable default entries) there right = right
-  one_more program (MakeExceptionTable signature normal items) there right = right
-  one_more program (Annotate inside values) there right = right
-  one_more program (NeedStackMap need) there right = right
-  one_more program (Build entries instruction) there right =
-      item_at (with_inserted program) program.current (Instruct program.place instruction (answers_from program.place 1 (result_types instruction.operation instruction.controlling)))
-      (inserted program right)
-      (no_answers program.place 1 (result_types instruction.operation instruction.controlling) (no_use program.place (Build entries instruction) there tt))
-  one_more program (ChangeJumpDestination branch from to) there right = record {
-    items = λ block. all_redirected branch from to (program.items block) (right.items block);
-    parameters = right.parameters;
-  }
-  one_more program Finalize there right = right
+  one_more program request there right = by (program_effect request)
+    where
+      of_program : (other : Program) → extended program request ≡ other → AllAnswerRight other → AllAnswerRight (extended program request)
+      of_program other is answer = subst AllAnswerRight (sym is) answer
+
+      of_request : (other : Request) → request ≡ other → (slice_get script program.place ≡ Some other → AllAnswerRight (extended program other))
+          → AllAnswerRight (extended program request)
+      of_request other is answer =
+          subst (λ (r : Request). AllAnswerRight (extended program r)) (sym is) (answer (subst (λ (r : Request). slice_get script program.place ≡ Some r) is there))
+
+      by : ProgramEffect request → AllAnswerRight (extended program request)
+      by (Leaves stays is) = of_program _ (is program) right
+      by (Inserts stays is) = of_program _ (is program) (inserted program right)
+      by (Takes block types stays makes is) =
+          of_program _ (is program)
+          (more_parameters program block (answers_from program.place 0 types) right
+          (no_answers program.place 0 types (no_use program.place request there (takes_no_use request makes))))
+      by (Switches block is) = of_request _ is (λ found. record { items = right.items; parameters = right.parameters })
+      by (Assigns variable value is) = of_request _ is (λ found. item_at program program.current (Assign variable value) right tt)
+      by (Uses variable is) =
+          of_request _ is (λ found. item_at (with_inserted program) program.current (Use variable (answer_of program.place 0)) (inserted program right) found)
+      by (Builds entries instruction is) =
+          of_request _ is (λ found. item_at (with_inserted program) program.current
+          (Instruct program.place instruction (answers_from program.place 1 (result_types instruction.operation instruction.controlling)))
+          (inserted program right)
+          (no_answers program.place 1 (result_types instruction.operation instruction.controlling) (no_use program.place (Build entries instruction) found tt)))
+      by (Redirects branch from to stays is) =
+          of_program _ (is program) (record {
+            items = λ block. all_redirected branch from to (program.items block) (right.items block);
+            parameters = right.parameters;
+          })
 
   placed : (program : Program) (place : ℕ) → AllAnswerRight program → AllAnswerRight (record program { place = place })
   placed program place right = record { items = right.items; parameters = right.parameters }
