@@ -10,7 +10,7 @@ use Rattle.clif_meaning.specs.Request.{Request, Script}
 use Rattle.clif_renaming.specs.Renaming.{KeepsApart, renamed_edge}
 use Rattle.clif_renaming.specs.Sealing.{is_sealing, name_left, renamed_request, unsealed, without_seals}
 use Rattle.clif_renaming.proofs.Places.{Follows, follows_at_first, follows_call, follows_here, follows_seal, names_apart}
-use Rattle.clif_renaming.proofs.RenamedEffects.{BothAppend, BothBegin, BothChange, BothCreate, BothEnter, BothHold, BothLead, BothList, BothPut, BothSeal, BothTry, RenamedLedgerEffect, renamed_ledger_effect, Seals, SealsAll, SealsOne, sealing_is}
+use Rattle.clif_renaming.proofs.RenamedEffects.{BothAppend, BothBegin, BothChange, BothChangeJump, BothCreate, BothEnter, BothInsertAfter, BothList, BothMakeExceptionTable, BothMakeJumpTable, BothSeal, RenamedLedgerEffect, Seals, SealsAll, SealsOne, renamed_ledger_effect, sealing_is}
 use Rattle.clif_renaming.proofs.RenamedNames.{same_renamed}
 
 -- a block, and whether it is filled
@@ -209,13 +209,13 @@ module _ (rename : Name → Name) (apart : KeepsApart rename) where
             current = same.current;
           })
       by (BothEnter block is) = of_request _ is (record { marks = same.marks; current = refl })
-      by (BothPut block after is) = of_request _ is (record { marks = same.marks; current = same.current })
-      by (BothHold default entries is) = of_request _ is (record { marks = same.marks; current = same.current })
-      by (BothTry signature normal items is) = of_request _ is (record { marks = same.marks; current = same.current })
+      by (BothInsertAfter block after is) = of_request _ is (record { marks = same.marks; current = same.current })
+      by (BothMakeJumpTable default entries is) = of_request _ is (record { marks = same.marks; current = same.current })
+      by (BothMakeExceptionTable signature normal items is) = of_request _ is (record { marks = same.marks; current = same.current })
       by (BothAppend entries instruction is) =
           let both = built_both l l' (next_answer l) (next_answer l') instruction.operation instruction.edges (map (renamed_edge rename) instruction.edges) same in
           of_request _ is (record { marks = both.marks; current = both.current })
-      by (BothLead branch from to is) =
+      by (BothChangeJump branch from to is) =
           of_request _ is (both_keep l l' _ _ same (redirected_kept l branch from to) (redirected_kept l' (rename branch) (rename from) (rename to)))
 
   -- after a call that seals, and after another one on both sides

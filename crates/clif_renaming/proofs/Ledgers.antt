@@ -10,7 +10,7 @@ use Rattle.clif_meaning.specs.Request.{Request, UseVar, Script}
 use Rattle.clif_renaming.specs.Renaming.{renamed_edge}
 use Rattle.clif_renaming.specs.Sealing.{is_sealing, name_left, place_left, renamed_request, unsealed, without_seals}
 use Rattle.clif_renaming.proofs.Places.{left_at, place_of_left, place_of_sealing, rank, rank_next}
-use Rattle.clif_renaming.proofs.RenamedEffects.{BothAppend, BothBegin, BothChange, BothCreate, BothEnter, BothHold, BothLead, BothList, BothPut, BothSeal, BothTry, RenamedLedgerEffect, renamed_ledger_effect, Seals, SealsAll, SealsOne, sealing_is}
+use Rattle.clif_renaming.proofs.RenamedEffects.{BothAppend, BothBegin, BothChange, BothChangeJump, BothCreate, BothEnter, BothInsertAfter, BothList, BothMakeExceptionTable, BothMakeJumpTable, BothSeal, RenamedLedgerEffect, Seals, SealsAll, SealsOne, renamed_ledger_effect, sealing_is}
 
 -- VARIABLES AND TABLES --------------------------------------------------------------------------------------------------
 
@@ -95,14 +95,14 @@ module _ (rename : Name → Name) (l l' : Ledger) (same : SameTables l l') where
           both_kept l l' _ _ same (sealing_keeps l request seals) (sealing_keeps l' (renamed_request rename request) renamed_seals)
       by (BothCreate is) = of_request _ is (record { variables = same.variables; tables = same.tables })
       by (BothEnter block is) = of_request _ is (record { variables = same.variables; tables = same.tables })
-      by (BothPut block after is) = of_request _ is (record { variables = same.variables; tables = same.tables })
-      by (BothHold default entries is) = of_request _ is (record { variables = same.variables; tables = same.tables })
-      by (BothTry signature normal items is) = of_request _ is (record { variables = same.variables; tables = same.tables })
+      by (BothInsertAfter block after is) = of_request _ is (record { variables = same.variables; tables = same.tables })
+      by (BothMakeJumpTable default entries is) = of_request _ is (record { variables = same.variables; tables = same.tables })
+      by (BothMakeExceptionTable signature normal items is) = of_request _ is (record { variables = same.variables; tables = same.tables })
       by (BothAppend entries instruction is) =
           let both = both_kept l l' _ _ same (built (next_answer l) l instruction.operation instruction.edges)
           (built (next_answer l') l' instruction.operation (map (renamed_edge rename) instruction.edges)) in
           of_request _ is (record { variables = both.variables; tables = both.tables })
-      by (BothLead branch from to is) = of_request _ is (record { variables = same.variables; tables = same.tables })
+      by (BothChangeJump branch from to is) = of_request _ is (record { variables = same.variables; tables = same.tables })
 
   pub both_after : (request : Request) → SameTables (ledger_with l request) (ledger_with l' (renamed_request rename request))
   both_after request = let both = both_changed request in record { variables = both.variables; tables = both.tables }
