@@ -9,7 +9,7 @@ use Rattle.clif_meaning.specs.Event.{CallItem}
 use Rattle.clif_meaning.specs.Ledger.{Answered, ABlock, AVariable, AValue, AnInstruction, AnEntry, AnEdge, AJumpTable, AnExceptionTable, Ledger, answered_edge, answers_to, edge_named, edges_named, edges_of_items, exception_table, is_instruction_answer, item_context, item_edge, item_kind, value_answer_type}
 use Rattle.clif_meaning.specs.Name.{Name, answer_of}
 use Rattle.clif_meaning.specs.Program.{result_types}
-use Rattle.clif_meaning.specs.Request.{Request, CreateBlock, SwitchToBlock, SealBlock, SealAllBlocks, InsertBlockAfter, SetColdBlock, EnsureInsertedBlock, AppendBlockParams, AppendFunctionParams, DeclareVar, DefVar, UseVar, MakeEntry, MakeEdge, MakeJumpTable, MakeExceptionTable, Annotate, NeedStackMap, Build, ChangeJumpDestination, Finalize, TableItem, TagTo, DefaultTo, InContext}
+use Rattle.clif_meaning.specs.Request.{Request, AppendBlockParams, AppendFunctionParams, MakeJumpTable, MakeExceptionTable, Build, TableItem, TagTo, DefaultTo, InContext}
 use Rattle.clif_renaming.specs.Renaming.{KeepsApart, renamed_edge}
 use Rattle.clif_renaming.specs.Sealing.{renamed_item, renamed_request}
 use Rattle.clif_sealing_order_laws.proofs.Lists.{filter_map_mapped, flat_map_mapped, get_pushed, get_pushed_other}
@@ -88,28 +88,13 @@ module _ (rename : Name → Name) where
   -- a renamed call answers the renamed answers
   pub answered_along : (ledger : Ledger) (answers : List (List Answered)) (request : Request)
       → answers_to (unsealed_ledger rename ledger answers) (renamed_request rename request) ≡ map (renamed_answer rename) (answers_to ledger request)
-  answered_along ledger answers CreateBlock = refl
-  answered_along ledger answers (SwitchToBlock block) = refl
-  answered_along ledger answers (SealBlock block) = refl
-  answered_along ledger answers SealAllBlocks = refl
-  answered_along ledger answers (InsertBlockAfter block after) = refl
-  answered_along ledger answers (SetColdBlock block) = refl
-  answered_along ledger answers EnsureInsertedBlock = refl
   answered_along ledger answers (AppendBlockParams block types) = values_along types
   answered_along ledger answers (AppendFunctionParams block types) = values_along types
-  answered_along ledger answers (DeclareVar ty) = refl
-  answered_along ledger answers (DefVar variable value) = refl
-  answered_along ledger answers (UseVar variable) = refl
-  answered_along ledger answers (MakeEntry entry) = refl
-  answered_along ledger answers (MakeEdge edge) = refl
   answered_along ledger answers (MakeJumpTable default entries) = ap (λ (n : ℕ). AJumpTable n ∷ []) (length-map ledger.jump_tables (renamed_table rename))
   answered_along ledger answers (MakeExceptionTable signature normal items) = ap (λ (n : ℕ). AnExceptionTable n ∷ []) (length-map ledger.exception_tables (renamed_exception rename))
-  answered_along ledger answers (Annotate inside values) = refl
-  answered_along ledger answers (NeedStackMap need) = refl
   answered_along ledger answers (Build entries instruction) =
       ap (λ (rest : List Answered). AnInstruction ∷ rest) (values_along (result_types instruction.operation instruction.controlling))
-  answered_along ledger answers (ChangeJumpDestination branch from to) = refl
-  answered_along ledger answers Finalize = refl
+  answered_along ledger answers _ = refl
 
   -- NAMED EDGES -----------------------------------------------------------------------------------------------------------
 

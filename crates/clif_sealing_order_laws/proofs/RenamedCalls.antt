@@ -3,64 +3,63 @@ use Rattle.std.proofs.Common.{◌≡◌, ℕ, zero, suc, true, false, List, [], 
 use Rattle.std.specs.Prelude.{replicate}
 use Rattle.std.proofs.lemmas.List.{map-append}
 use Rattle.clif_meaning.specs.Instruction.{Edge, Operation, Switch}
-use Rattle.clif_meaning.specs.Ledger.{Answered, BlockState, ExceptionTable, Ledger, VariableState, answers_to, changed_by, edges_named, exception_table, ledger_with, new_block, next_answer, touched_at, with_cold_mark, with_instruction, with_need, with_parameter_types}
+use Rattle.clif_meaning.specs.Ledger.{Answered, BlockState, ExceptionTable, Ledger, answers_to, changed_by, edges_named, exception_table, ledger_with, new_block, next_answer, with_instruction}
 use Rattle.clif_meaning.specs.Name.{Name, answer_of}
-use Rattle.clif_meaning.specs.Request.{Request, CreateBlock, SwitchToBlock, SealBlock, SealAllBlocks, InsertBlockAfter, SetColdBlock, EnsureInsertedBlock, AppendBlockParams, AppendFunctionParams, DeclareVar, DefVar, UseVar, MakeEntry, MakeEdge, MakeJumpTable, MakeExceptionTable, Annotate, NeedStackMap, Build, ChangeJumpDestination, Finalize, StackMapNeed, OfVariable, OfValue}
+use Rattle.clif_meaning.specs.Request.{Request}
 use Rattle.clif_expansion.specs.Keys.{table_count}
 use Rattle.clif_expansion.specs.ScriptCall.{Ask, Emit, ScriptCall, call_answers, call_changes, emitted_types, ledger_behind, ledger_with_call, with_imports}
 use Rattle.clif_renaming.specs.CallsSealing.{counted_as, renamed_call}
 use Rattle.clif_renaming.specs.Renaming.{KeepsApart}
-use Rattle.clif_renaming.specs.Sealing.{is_sealing, renamed_need, renamed_request}
+use Rattle.clif_renaming.specs.Sealing.{is_sealing, renamed_request}
+use Rattle.clif_renaming.proofs.RenamedEffects.{BothAppend, BothBegin, BothChange, BothChangeJump, BothCreate, BothEnter, BothInsertAfter, BothList, BothMakeExceptionTable, BothMakeJumpTable, BothSeal, RenamedLedgerEffect, Seals, SealsAll, SealsOne, renamed_ledger_effect, sealing_is}
 use Rattle.clif_sealing_order_laws.proofs.RenamedAnswers.{AnswersGoAlong, along_call, along_seal, answered_along, edges_named_along, exceptions_along, values_along}
 use Rattle.clif_sealing_order_laws.proofs.RenamedLedgers.{begun_both, instruction_both, put_both, redirected_both, renamed_answer, renamed_exception, renamed_table, sealed_one_unseen, sealed_unseen, served_renamed, state_both, tried_renamed, unsealed_ledger, unsealed_state}
 
 module _ (rename : Name → Name) (apart : KeepsApart rename) where
-  needed_both : (need : StackMapNeed) (states : List VariableState) → with_need (renamed_need rename need) states ≡ with_need need states
-  needed_both (OfVariable variable) states = refl
-  needed_both (OfValue value) states = refl
-
   -- a renamed call changes the other ledger as the call does
+  abbrev ChangesBoth : Ledger → List (List Answered) → Request → Type 0
+  ChangesBoth ledger answers request = changed_by (unsealed_ledger rename ledger answers) (renamed_request rename request) ≡ unsealed_ledger rename (changed_by ledger request) answers
+
   changed_both : (ledger : Ledger) (answers : List (List Answered)) → AnswersGoAlong rename ledger.answers answers → (request : Request) → is_sealing request ≡ false
-      → rename (next_answer ledger) ≡ next_answer (unsealed_ledger rename ledger answers)
-      → changed_by (unsealed_ledger rename ledger answers) (renamed_request rename request) ≡ unsealed_ledger rename (changed_by ledger request) answers
-  changed_both ledger answers along CreateBlock stays at =
-      ap (λ (blocks : List BlockState). record (unsealed_ledger rename ledger answers) { blocks = blocks })
-      (ap (λ (block : Name). map (unsealed_state rename) ledger.blocks ++ new_block block ∷ []) (sym at)
-      ∙ sym (map-append (unsealed_state rename) ledger.blocks (new_block (next_answer ledger) ∷ [])))
-  changed_both ledger answers along (SwitchToBlock block) stays at = refl
-  changed_both ledger answers along (SealBlock block) stays at = let none : ⊥ = cc in absurd none
-  changed_both ledger answers along SealAllBlocks stays at = let none : ⊥ = cc in absurd none
-  changed_both ledger answers along (InsertBlockAfter block after) stays at = put_both rename apart answers ledger block after
-  changed_both ledger answers along (SetColdBlock block) stays at = state_both rename apart answers ledger block with_cold_mark with_cold_mark (λ state. refl)
-  changed_both ledger answers along EnsureInsertedBlock stays at = begun_both rename apart answers ledger
-  changed_both ledger answers along (AppendBlockParams block types) stays at =
-      state_both rename apart answers ledger block (with_parameter_types types) (with_parameter_types types) (λ state. refl)
-  changed_both ledger answers along (AppendFunctionParams block types) stays at =
-      state_both rename apart answers ledger block (with_parameter_types types) (with_parameter_types types) (λ state. refl)
-  changed_both ledger answers along (DeclareVar ty) stays at = refl
-  changed_both ledger answers along (DefVar variable value) stays at = refl
-  changed_both ledger answers along (UseVar variable) stays at =
-      ap (λ (begun : Ledger). record begun { variables = touched_at variable begun.variables }) (begun_both rename apart answers ledger)
-  changed_both ledger answers along (MakeEntry entry) stays at = refl
-  changed_both ledger answers along (MakeEdge edge) stays at = refl
-  changed_both ledger answers along (MakeJumpTable default entries) stays at =
-      ap (λ (tables : List (Option (List (Edge Name Name)))). record (unsealed_ledger rename ledger answers) { jump_tables = tables })
-      (ap (λ (edges : List (Edge Name Name)). map (renamed_table rename) ledger.jump_tables ++ Some edges ∷ []) (edges_named_along rename ledger answers along (default ∷ entries))
-      ∙ sym (map-append (renamed_table rename) ledger.jump_tables (Some (edges_named ledger (default ∷ entries)) ∷ [])))
-  changed_both ledger answers along (MakeExceptionTable signature normal items) stays at =
-      ap (λ (tables : List (Option ExceptionTable)). record (unsealed_ledger rename ledger answers) { exception_tables = tables })
-      (ap (λ (held : ExceptionTable). map (renamed_exception rename) ledger.exception_tables ++ Some held ∷ []) (exceptions_along rename ledger answers along signature normal items)
-      ∙ sym (map-append (renamed_exception rename) ledger.exception_tables (Some (exception_table ledger signature normal items) ∷ [])))
-  changed_both ledger answers along (Annotate inside values) stays at = refl
-  changed_both ledger answers along (NeedStackMap need) stays at =
-      ap (λ (states : List VariableState). record (unsealed_ledger rename ledger answers) { variables = states }) (needed_both need ledger.variables)
-  changed_both ledger answers along (Build entries instruction) stays at = λ i.
-      record (instruction_both rename apart answers ledger instruction at i) {
-        jump_tables = served_renamed rename ledger.jump_tables entries i;
-        exception_tables = tried_renamed rename ledger.exception_tables entries i;
-      }
-  changed_both ledger answers along (ChangeJumpDestination branch from to) stays at = redirected_both rename apart answers ledger branch from to
-  changed_both ledger answers along Finalize stays at = refl
+      → rename (next_answer ledger) ≡ next_answer (unsealed_ledger rename ledger answers) → ChangesBoth ledger answers request
+  changed_both ledger answers along request stays at = by (renamed_ledger_effect rename request)
+    where
+      -- both by what they do
+      of_ledgers : (m m' : Ledger) → changed_by ledger request ≡ m → changed_by (unsealed_ledger rename ledger answers) (renamed_request rename request) ≡ m'
+          → m' ≡ unsealed_ledger rename m answers → ChangesBoth ledger answers request
+      of_ledgers m m' here there both = there ∙ both ∙ ap (λ (other : Ledger). unsealed_ledger rename other answers) (sym here)
+
+      of_request : (other : Request) → request ≡ other → ChangesBoth ledger answers other → ChangesBoth ledger answers request
+      of_request other same both = subst (ChangesBoth ledger answers) (sym same) both
+
+      by : RenamedLedgerEffect rename request → ChangesBoth ledger answers request
+      by (BothList variables tables here there) = of_ledgers _ _ (here ledger) (there (unsealed_ledger rename ledger answers)) refl
+      by (BothChange block change renamed alike here there) =
+          of_ledgers _ _ (here ledger) (there (unsealed_ledger rename ledger answers)) (state_both rename apart answers ledger block change renamed (alike.along false))
+      by (BothBegin variables here there) =
+          of_ledgers _ _ (here ledger) (there (unsealed_ledger rename ledger answers))
+          (ap (λ (begun : Ledger). record begun { variables = variables begun.variables }) (begun_both rename apart answers ledger))
+      by (BothSeal seals renamed_seals) = let none : ⊥ = cc in absurd none
+      by (BothCreate same) =
+          of_request _ same (ap (λ (blocks : List BlockState). record (unsealed_ledger rename ledger answers) { blocks = blocks })
+          (ap (λ (block : Name). map (unsealed_state rename) ledger.blocks ++ new_block block ∷ []) (sym at)
+          ∙ sym (map-append (unsealed_state rename) ledger.blocks (new_block (next_answer ledger) ∷ []))))
+      by (BothEnter block same) = of_request _ same refl
+      by (BothInsertAfter block after same) = of_request _ same (put_both rename apart answers ledger block after)
+      by (BothMakeJumpTable default entries same) =
+          of_request _ same (ap (λ (tables : List (Option (List (Edge Name Name)))). record (unsealed_ledger rename ledger answers) { jump_tables = tables })
+          (ap (λ (edges : List (Edge Name Name)). map (renamed_table rename) ledger.jump_tables ++ Some edges ∷ []) (edges_named_along rename ledger answers along (default ∷ entries))
+          ∙ sym (map-append (renamed_table rename) ledger.jump_tables (Some (edges_named ledger (default ∷ entries)) ∷ []))))
+      by (BothMakeExceptionTable signature normal items same) =
+          of_request _ same (ap (λ (tables : List (Option ExceptionTable)). record (unsealed_ledger rename ledger answers) { exception_tables = tables })
+          (ap (λ (held : ExceptionTable). map (renamed_exception rename) ledger.exception_tables ++ Some held ∷ []) (exceptions_along rename ledger answers along signature normal items)
+          ∙ sym (map-append (renamed_exception rename) ledger.exception_tables (Some (exception_table ledger signature normal items) ∷ []))))
+      by (BothAppend entries instruction same) =
+          of_request _ same (λ i. record (instruction_both rename apart answers ledger instruction at i) {
+            jump_tables = served_renamed rename ledger.jump_tables entries i;
+            exception_tables = tried_renamed rename ledger.exception_tables entries i;
+          })
+      by (BothChangeJump branch from to same) = of_request _ same (redirected_both rename apart answers ledger branch from to)
 
   -- what stands behind a switch
   behind_both : (ledger : Ledger) (answers : List (List Answered)) (operation : Operation)
@@ -108,29 +107,15 @@ module _ (rename : Name → Name) (apart : KeepsApart rename) where
   -- a call that seals leaves the other ledger as it is
   request_seal_both : (ledger : Ledger) (answers : List (List Answered)) (request : Request) → is_sealing request ≡ true
       → unsealed_ledger rename (ledger_with ledger request) answers ≡ unsealed_ledger rename ledger answers
-  request_seal_both ledger answers (SealBlock block) seals =
-      ap (λ (blocks : List BlockState). record (unsealed_ledger rename ledger answers) { blocks = blocks }) (sealed_one_unseen rename block ledger.blocks)
-  request_seal_both ledger answers SealAllBlocks seals =
-      ap (λ (blocks : List BlockState). record (unsealed_ledger rename ledger answers) { blocks = blocks }) (sealed_unseen rename ledger.blocks)
-  request_seal_both ledger answers CreateBlock seals = let none : ⊥ = cc in absurd none
-  request_seal_both ledger answers (SwitchToBlock block) seals = let none : ⊥ = cc in absurd none
-  request_seal_both ledger answers (InsertBlockAfter block after) seals = let none : ⊥ = cc in absurd none
-  request_seal_both ledger answers (SetColdBlock block) seals = let none : ⊥ = cc in absurd none
-  request_seal_both ledger answers EnsureInsertedBlock seals = let none : ⊥ = cc in absurd none
-  request_seal_both ledger answers (AppendBlockParams block types) seals = let none : ⊥ = cc in absurd none
-  request_seal_both ledger answers (AppendFunctionParams block types) seals = let none : ⊥ = cc in absurd none
-  request_seal_both ledger answers (DeclareVar ty) seals = let none : ⊥ = cc in absurd none
-  request_seal_both ledger answers (DefVar variable value) seals = let none : ⊥ = cc in absurd none
-  request_seal_both ledger answers (UseVar variable) seals = let none : ⊥ = cc in absurd none
-  request_seal_both ledger answers (MakeEntry entry) seals = let none : ⊥ = cc in absurd none
-  request_seal_both ledger answers (MakeEdge edge) seals = let none : ⊥ = cc in absurd none
-  request_seal_both ledger answers (MakeJumpTable default entries) seals = let none : ⊥ = cc in absurd none
-  request_seal_both ledger answers (MakeExceptionTable signature normal items) seals = let none : ⊥ = cc in absurd none
-  request_seal_both ledger answers (Annotate inside values) seals = let none : ⊥ = cc in absurd none
-  request_seal_both ledger answers (NeedStackMap need) seals = let none : ⊥ = cc in absurd none
-  request_seal_both ledger answers (Build entries instruction) seals = let none : ⊥ = cc in absurd none
-  request_seal_both ledger answers (ChangeJumpDestination branch from to) seals = let none : ⊥ = cc in absurd none
-  request_seal_both ledger answers Finalize seals = let none : ⊥ = cc in absurd none
+  request_seal_both ledger answers request seals = by (sealing_is request seals)
+    where
+      by : Seals request → unsealed_ledger rename (ledger_with ledger request) answers ≡ unsealed_ledger rename ledger answers
+      by (SealsOne block same) =
+          ap (λ (r : Request). unsealed_ledger rename (ledger_with ledger r) answers) same
+          ∙ ap (λ (blocks : List BlockState). record (unsealed_ledger rename ledger answers) { blocks = blocks }) (sealed_one_unseen rename block ledger.blocks)
+      by (SealsAll same) =
+          ap (λ (r : Request). unsealed_ledger rename (ledger_with ledger r) answers) same
+          ∙ ap (λ (blocks : List BlockState). record (unsealed_ledger rename ledger answers) { blocks = blocks }) (sealed_unseen rename ledger.blocks)
 
   pub with_seal_both : (ledger : Ledger) (answers : List (List Answered)) (call : ScriptCall) → is_sealing (counted_as call) ≡ true
       → unsealed_ledger rename (ledger_with_call ledger call) answers ≡ unsealed_ledger rename ledger answers
@@ -144,27 +129,11 @@ module _ (rename : Name → Name) (apart : KeepsApart rename) where
       (along_seal rename apart ledger.answers answers along)
     where
       no_answers : (request : Request) → is_sealing request ≡ true → answers_to ledger request ≡ []
-      no_answers (SealBlock block) seals = refl
-      no_answers SealAllBlocks seals = refl
-      no_answers CreateBlock seals = let none : ⊥ = cc in absurd none
-      no_answers (SwitchToBlock block) seals = refl
-      no_answers (InsertBlockAfter block after) seals = refl
-      no_answers (SetColdBlock block) seals = refl
-      no_answers EnsureInsertedBlock seals = refl
-      no_answers (AppendBlockParams block types) seals = let none : ⊥ = cc in absurd none
-      no_answers (AppendFunctionParams block types) seals = let none : ⊥ = cc in absurd none
-      no_answers (DeclareVar ty) seals = let none : ⊥ = cc in absurd none
-      no_answers (DefVar variable value) seals = refl
-      no_answers (UseVar variable) seals = let none : ⊥ = cc in absurd none
-      no_answers (MakeEntry entry) seals = let none : ⊥ = cc in absurd none
-      no_answers (MakeEdge edge) seals = let none : ⊥ = cc in absurd none
-      no_answers (MakeJumpTable default entries) seals = let none : ⊥ = cc in absurd none
-      no_answers (MakeExceptionTable signature normal items) seals = let none : ⊥ = cc in absurd none
-      no_answers (Annotate inside values) seals = refl
-      no_answers (NeedStackMap need) seals = refl
-      no_answers (Build entries instruction) seals = let none : ⊥ = cc in absurd none
-      no_answers (ChangeJumpDestination branch from to) seals = refl
-      no_answers Finalize seals = refl
+      no_answers request seals = by (sealing_is request seals)
+        where
+          by : Seals request → answers_to ledger request ≡ []
+          by (SealsOne block same) = ap (answers_to ledger) same
+          by (SealsAll same) = ap (answers_to ledger) same
 
       none_given : (call : ScriptCall) → is_sealing (counted_as call) ≡ true → call_answers ledger call ≡ []
       none_given (Ask request) seals = no_answers request seals
