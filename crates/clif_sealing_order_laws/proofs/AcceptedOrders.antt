@@ -1,5 +1,5 @@
 -- What a call of the builder that may be made, or that seals, says of the order of sealing.
-use Rattle.std.proofs.Common.{◌≡◌, Bool, true, false, cond, not, List, [], ◌∷◌, refl, Some}
+use Rattle.std.proofs.Common.{◌≡◌, Bool, true, false, cond, not, List, [], ◌∷◌, refl, sym, ap, subst, Some}
 use Rattle.std.specs.Prelude.{◌&&◌, find, is_some}
 use Rattle.std.specs.List.{list_all}
 use Rattle.std.proofs.lemmas.Bool.{and_from, and_parts, or_left}
@@ -7,8 +7,9 @@ use Rattle.clif_meaning.specs.Acceptance.{allows, can_lead, can_leave, can_opera
 use Rattle.clif_meaning.specs.Instruction.{Edge, operation_entries}
 use Rattle.clif_meaning.specs.Ledger.{BlockState, Ledger, has_block, has_instruction, has_value, is_filled, is_sealed, leads_to}
 use Rattle.clif_meaning.specs.Name.{Name}
-use Rattle.clif_meaning.specs.Request.{Request, CreateBlock, SwitchToBlock, SealBlock, SealAllBlocks, InsertBlockAfter, SetColdBlock, EnsureInsertedBlock, AppendBlockParams, AppendFunctionParams, DeclareVar, DefVar, UseVar, MakeEntry, MakeEdge, MakeJumpTable, MakeExceptionTable, Annotate, NeedStackMap, Build, ChangeJumpDestination, Finalize}
+use Rattle.clif_meaning.specs.Request.{Request, SwitchToBlock, SealBlock, Build, ChangeJumpDestination, Finalize}
 use Rattle.clif_renaming.specs.Sealing.{is_sealing}
+use Rattle.clif_renaming.proofs.RenamedEffects.{Seals, SealsAll, SealsOne, sealing_is}
 use Rattle.clif_sealing_order_laws.specs.Order.{allows_order, is_left_anyhow, is_sealed_if_begun, is_unsealed_target, spares_order}
 
 pub leads_unsealed : (ledger : Ledger) (edges : List (Edge Name Name)) → list_all (can_lead ledger) edges ≡ true → list_all (is_unsealed_target ledger) edges ≡ true
@@ -33,24 +34,8 @@ finished_sealed (state ∷ states) none = by state.is_pristine state.is_sealed s
 
 -- a call that may be made and isn't refused gets what it asks of the sealing before it
 pub allowed_ordered : (ledger : Ledger) (request : Request) → allows ledger request ≡ true → is_some (refusal_of ledger request) ≡ false → allows_order ledger request ≡ true
-allowed_ordered ledger CreateBlock may none = refl
 allowed_ordered ledger (SwitchToBlock block) may none = (and_parts (has_block ledger block && not (is_filled ledger block)) (can_leave ledger ledger.current) may).1
 allowed_ordered ledger (SealBlock block) may none = may
-allowed_ordered ledger SealAllBlocks may none = refl
-allowed_ordered ledger (InsertBlockAfter block after) may none = refl
-allowed_ordered ledger (SetColdBlock block) may none = refl
-allowed_ordered ledger EnsureInsertedBlock may none = refl
-allowed_ordered ledger (AppendBlockParams block types) may none = refl
-allowed_ordered ledger (AppendFunctionParams block types) may none = refl
-allowed_ordered ledger (DeclareVar ty) may none = refl
-allowed_ordered ledger (DefVar variable value) may none = refl
-allowed_ordered ledger (UseVar variable) may none = refl
-allowed_ordered ledger (MakeEntry entry) may none = refl
-allowed_ordered ledger (MakeEdge edge) may none = refl
-allowed_ordered ledger (MakeJumpTable default entries) may none = refl
-allowed_ordered ledger (MakeExceptionTable signature normal items) may none = refl
-allowed_ordered ledger (Annotate inside values) may none = refl
-allowed_ordered ledger (NeedStackMap need) may none = refl
 allowed_ordered ledger (Build entries instruction) may none =
     let start : Bool = list_all (has_value ledger) instruction.contexts && may_give_all ledger entries && is_open ledger ledger.current && list_all (has_value ledger) instruction.operands in
     let leads : Bool = list_all (can_lead ledger) instruction.edges in
@@ -63,74 +48,24 @@ allowed_ordered ledger (ChangeJumpDestination branch from to) may none =
     and_from (not (is_sealed ledger from)) (not (is_sealed ledger to))
     (and_parts start (not (is_sealed ledger from)) (and_parts (start && not (is_sealed ledger from)) (has_block ledger to) both.0).0).1 both.1
 allowed_ordered ledger Finalize may none = finished_sealed ledger.blocks none
+allowed_ordered ledger _ may none = refl
 
 -- a call that seals may be made where the order is allowed, and none is refused
 pub seal_allowed : (ledger : Ledger) (request : Request) → is_sealing request ≡ true → spares_order ledger request ≡ true → allows ledger request ≡ true
-seal_allowed ledger (SealBlock block) seals ordered = ordered
-seal_allowed ledger SealAllBlocks seals ordered = refl
-seal_allowed ledger CreateBlock seals ordered = refl
-seal_allowed ledger (SwitchToBlock block) seals ordered = let none : ⊥ = cc in absurd none
-seal_allowed ledger (InsertBlockAfter block after) seals ordered = let none : ⊥ = cc in absurd none
-seal_allowed ledger (SetColdBlock block) seals ordered = let none : ⊥ = cc in absurd none
-seal_allowed ledger EnsureInsertedBlock seals ordered = let none : ⊥ = cc in absurd none
-seal_allowed ledger (AppendBlockParams block types) seals ordered = let none : ⊥ = cc in absurd none
-seal_allowed ledger (AppendFunctionParams block types) seals ordered = let none : ⊥ = cc in absurd none
-seal_allowed ledger (DeclareVar ty) seals ordered = let none : ⊥ = cc in absurd none
-seal_allowed ledger (DefVar variable value) seals ordered = let none : ⊥ = cc in absurd none
-seal_allowed ledger (UseVar variable) seals ordered = let none : ⊥ = cc in absurd none
-seal_allowed ledger (MakeEntry entry) seals ordered = let none : ⊥ = cc in absurd none
-seal_allowed ledger (MakeEdge edge) seals ordered = let none : ⊥ = cc in absurd none
-seal_allowed ledger (MakeJumpTable default entries) seals ordered = let none : ⊥ = cc in absurd none
-seal_allowed ledger (MakeExceptionTable signature normal items) seals ordered = let none : ⊥ = cc in absurd none
-seal_allowed ledger (Annotate inside values) seals ordered = let none : ⊥ = cc in absurd none
-seal_allowed ledger (NeedStackMap need) seals ordered = let none : ⊥ = cc in absurd none
-seal_allowed ledger (Build entries instruction) seals ordered = let none : ⊥ = cc in absurd none
-seal_allowed ledger (ChangeJumpDestination branch from to) seals ordered = let none : ⊥ = cc in absurd none
-seal_allowed ledger Finalize seals ordered = refl
+seal_allowed ledger request seals ordered = by (sealing_is request seals) ordered
+  where
+    by : Seals request → spares_order ledger request ≡ true → allows ledger request ≡ true
+    by (SealsOne block same) = subst (λ (r : Request). spares_order ledger r ≡ true → allows ledger r ≡ true) (sym same) (λ is. is)
+    by (SealsAll same) = subst (λ (r : Request). spares_order ledger r ≡ true → allows ledger r ≡ true) (sym same) (λ is. refl)
 
 pub seal_unrefused : (ledger : Ledger) (request : Request) → is_sealing request ≡ true → is_some (refusal_of ledger request) ≡ false
-seal_unrefused ledger (SealBlock block) seals = refl
-seal_unrefused ledger SealAllBlocks seals = refl
-seal_unrefused ledger CreateBlock seals = refl
-seal_unrefused ledger (SwitchToBlock block) seals = refl
-seal_unrefused ledger (InsertBlockAfter block after) seals = refl
-seal_unrefused ledger (SetColdBlock block) seals = refl
-seal_unrefused ledger EnsureInsertedBlock seals = refl
-seal_unrefused ledger (AppendBlockParams block types) seals = refl
-seal_unrefused ledger (AppendFunctionParams block types) seals = refl
-seal_unrefused ledger (DeclareVar ty) seals = refl
-seal_unrefused ledger (DefVar variable value) seals = refl
-seal_unrefused ledger (UseVar variable) seals = refl
-seal_unrefused ledger (MakeEntry entry) seals = refl
-seal_unrefused ledger (MakeEdge edge) seals = refl
-seal_unrefused ledger (MakeJumpTable default entries) seals = refl
-seal_unrefused ledger (MakeExceptionTable signature normal items) seals = refl
-seal_unrefused ledger (Annotate inside values) seals = refl
-seal_unrefused ledger (NeedStackMap need) seals = refl
-seal_unrefused ledger (Build entries instruction) seals = refl
-seal_unrefused ledger (ChangeJumpDestination branch from to) seals = refl
-seal_unrefused ledger Finalize seals = let none : ⊥ = cc in absurd none
+seal_unrefused ledger request seals = by (sealing_is request seals)
+  where
+    by : Seals request → is_some (refusal_of ledger request) ≡ false
+    by (SealsOne block same) = ap (λ (r : Request). is_some (refusal_of ledger r)) same
+    by (SealsAll same) = ap (λ (r : Request). is_some (refusal_of ledger r)) same
 
 -- where its order is allowed sealing isn't to blame
 pub allowed_spared : (ledger : Ledger) (request : Request) → allows_order ledger request ≡ true → spares_order ledger request ≡ true
-allowed_spared ledger CreateBlock ordered = ordered
 allowed_spared ledger (SwitchToBlock block) ordered = or_left (can_leave ledger ledger.current) (is_left_anyhow ledger ledger.current) ordered
-allowed_spared ledger (SealBlock block) ordered = ordered
-allowed_spared ledger SealAllBlocks ordered = ordered
-allowed_spared ledger (InsertBlockAfter block after) ordered = ordered
-allowed_spared ledger (SetColdBlock block) ordered = ordered
-allowed_spared ledger EnsureInsertedBlock ordered = ordered
-allowed_spared ledger (AppendBlockParams block types) ordered = ordered
-allowed_spared ledger (AppendFunctionParams block types) ordered = ordered
-allowed_spared ledger (DeclareVar ty) ordered = ordered
-allowed_spared ledger (DefVar variable value) ordered = ordered
-allowed_spared ledger (UseVar variable) ordered = ordered
-allowed_spared ledger (MakeEntry entry) ordered = ordered
-allowed_spared ledger (MakeEdge edge) ordered = ordered
-allowed_spared ledger (MakeJumpTable default entries) ordered = ordered
-allowed_spared ledger (MakeExceptionTable signature normal items) ordered = ordered
-allowed_spared ledger (Annotate inside values) ordered = ordered
-allowed_spared ledger (NeedStackMap need) ordered = ordered
-allowed_spared ledger (Build entries instruction) ordered = ordered
-allowed_spared ledger (ChangeJumpDestination branch from to) ordered = ordered
-allowed_spared ledger Finalize ordered = ordered
+allowed_spared ledger _ ordered = ordered

@@ -4,17 +4,17 @@ use Rattle.std.specs.Prelude.{◌&&◌, ◌||◌, find, if◌then◌else◌, is_
 use Rattle.std.specs.List.{list_all, list_any}
 use Rattle.std.proofs.lemmas.Bool.{and_parts}
 use Rattle.clif_types.specs.declared.types.«Type».{«Type»}
-use Rattle.clif_instructions.specs.Instruction.{ASignatureRef}
-use Rattle.clif_meaning.specs.Acceptance.{allows, blames_variable, can_assign, can_lead, can_leave, can_operate, fits_stack_map, has_argument, has_entry, has_item, is_open, is_unfinished, may_give, may_need, refusal_of, tables_differ, unfinished}
-use Rattle.clif_meaning.specs.Instruction.{Argument, Known, CallResult, CallPayload, Edge, Operation, operation_entries}
-use Rattle.clif_meaning.specs.Ledger.{Answered, BlockState, Ledger, block_state, edge_named, has_block, has_instruction, has_predecessors, has_value, is_empty, is_filled, is_inserted, is_instruction_answer, is_pristine, is_sealed, leads_to, or_invalid, state_has, type_of, value_answer_type, variable_type, begins_with}
+use Rattle.clif_meaning.specs.Acceptance.{allows, blames_variable, can_assign, can_lead, can_leave, has_argument, has_item, is_open, is_unfinished, may_give, refusal_of, unfinished}
+use Rattle.clif_meaning.specs.Instruction.{Argument, Known, CallResult, CallPayload, Edge, Operation}
+use Rattle.clif_meaning.specs.Ledger.{Answered, BlockState, Ledger, block_state, edge_named, has_block, has_instruction, has_predecessors, has_value, is_empty, is_filled, is_inserted, is_instruction_answer, is_pristine, is_sealed, leads_to, state_has, type_of, value_answer_type, variable_type, begins_with}
 use Rattle.clif_meaning.specs.Name.{Name, same_name}
-use Rattle.clif_meaning.specs.Request.{Request, CreateBlock, SwitchToBlock, SealBlock, SealAllBlocks, InsertBlockAfter, SetColdBlock, EnsureInsertedBlock, AppendBlockParams, AppendFunctionParams, DeclareVar, DefVar, UseVar, MakeEntry, MakeEdge, MakeJumpTable, MakeExceptionTable, Annotate, NeedStackMap, Build, ChangeJumpDestination, Finalize, GivenEntry, ServedBy, TriedBy, Imported, TableItem, TagTo, DefaultTo, InContext, StackMapNeed, OfVariable, OfValue}
+use Rattle.clif_meaning.specs.Request.{Request, SwitchToBlock, SealBlock, DefVar, UseVar, NeedStackMap, Build, ChangeJumpDestination, Finalize, GivenEntry, ServedBy, TriedBy, Imported, TableItem, TagTo, DefaultTo, InContext, OfVariable}
 use Rattle.clif_expansion.specs.CallsVerdict.{call_blames_variable}
 use Rattle.clif_expansion.specs.ScriptCall.{Ask, Emit, OfCall, ScriptCall, call_allowed, call_refusal, can_emit, is_byte, is_second_byte, sets_bytes, takes_byte}
 use Rattle.clif_renaming.specs.CallsSealing.{counted_as, renamed_call}
 use Rattle.clif_renaming.specs.Renaming.{KeepsApart, renamed_argument, renamed_edge}
-use Rattle.clif_renaming.specs.Sealing.{is_sealing, renamed_item, renamed_need, renamed_request}
+use Rattle.clif_renaming.specs.Sealing.{is_sealing, renamed_item, renamed_request}
+use Rattle.clif_renaming.proofs.RenamedEffects.{And, CanLead, CanLeave, Condition, HasArguments, HasBlock, HasEdge, HasEdges, HasInstruction, HasItems, HasValues, IsInserted, IsOpen, IsUnsealed, LeadsTo, MayGive, Not, OfBlock, OfLists, OfType, Where, allowed_where_met, condition_of, meets, renamed_asks, renamed_condition}
 use Rattle.clif_renaming.proofs.RenamedNames.{same_renamed}
 use Rattle.clif_renaming.proofs.TrackedNames.{list_any_renamed}
 use Rattle.clif_sealing_order_laws.specs.CallOrder.{spares_call_order}
@@ -34,6 +34,38 @@ could_leave ledger (Some block) =
 abbrev allows_unsealed : Ledger → Request → Bool
 allows_unsealed ledger (SwitchToBlock block) = has_block ledger block && not (is_filled ledger block) && could_leave ledger ledger.current
 allows_unsealed ledger request = allows ledger request
+
+-- what calls ask, where nothing is sealed: as if the current block were
+abbrev meets_unsealed : Ledger → Condition → Bool
+meets_unsealed ledger (And one other) = meets_unsealed ledger one && meets_unsealed ledger other
+meets_unsealed ledger (Not condition) = not (meets_unsealed ledger condition)
+meets_unsealed ledger (Where test condition) = if test then meets_unsealed ledger condition else true
+meets_unsealed ledger CanLeave = could_leave ledger ledger.current
+meets_unsealed ledger condition = meets ledger condition
+
+allowed_where_met_unsealed : (ledger : Ledger) (request : Request) → allows_unsealed ledger request ≡ meets_unsealed ledger (condition_of request)
+allowed_where_met_unsealed ledger (NeedStackMap (OfVariable variable)) = refl
+allowed_where_met_unsealed ledger _ = refl
+
+-- sealing isn't to blame where this isn't met
+abbrev spares : Ledger → Condition → Bool
+spares ledger (And one other) = spares ledger one && spares ledger other
+spares ledger (Not condition) = spares ledger condition
+spares ledger (Where test condition) = spares ledger condition
+spares ledger CanLeave = can_leave ledger ledger.current || is_left_anyhow ledger ledger.current
+spares ledger (IsUnsealed block) = not (is_sealed ledger block)
+spares ledger (CanLead edges) = list_all (is_unsealed_target ledger) edges
+spares ledger condition = true
+
+-- so it is with what a call asks that spares the order
+order_spared : (ledger : Ledger) (request : Request) → spares_order ledger request ≡ true → spares ledger (condition_of request) ≡ true
+order_spared ledger (SwitchToBlock block) ordered = ordered
+order_spared ledger (SealBlock block) ordered = (and_parts (has_block ledger block) (not (is_sealed ledger block)) ordered).1
+order_spared ledger (NeedStackMap (OfVariable variable)) ordered = refl
+order_spared ledger (Build entries instruction) ordered = ap (λ (c : Bool). c && true && true) ordered
+order_spared ledger (ChangeJumpDestination branch from to) ordered =
+    let both = and_parts (not (is_sealed ledger from)) (not (is_sealed ledger to)) ordered in ap₂ (λ (a b : Bool). a && true && b) both.0 both.1
+order_spared ledger _ ordered = refl
 
 -- something was made in the block, and it isn't filled
 abbrev pub is_unended : BlockState → Bool
@@ -166,10 +198,6 @@ module _ (rename : Name → Name) (apart : KeepsApart rename) (ledger : Ledger) 
   all_give_along [] = refl
   all_give_along (entry ∷ entries) = ap₂ (λ (a b : Bool). a && b) (give_along entry) (all_give_along entries)
 
-  need_along : (need : StackMapNeed) → may_need other (renamed_need rename need) ≡ may_need ledger need
-  need_along (OfVariable variable) = refl
-  need_along (OfValue value) = ap₂ (λ (has : Bool) (ty : Option «Type»). has && fits_stack_map (or_invalid ty)) (value_along value) (typed_along value)
-
   -- where what they lead to isn't sealed, edges can lead
   lead_along : (edge : Edge Name Name) → is_unsealed_target ledger edge ≡ true → can_lead other (renamed_edge rename edge) ≡ can_lead ledger edge
   lead_along edge unsealed =
@@ -206,69 +234,45 @@ module _ (rename : Name → Name) (apart : KeepsApart rename) (ledger : Ledger) 
 
   -- CONDITIONS ------------------------------------------------------------------------------------------------------------
 
-  allowed_along : (request : Request) → is_sealing request ≡ false → spares_order ledger request ≡ true
-      → allows_unsealed other (renamed_request rename request) ≡ allows ledger request
-  allowed_along CreateBlock stays ordered = refl
-  allowed_along (SwitchToBlock block) stays ordered =
-      ap₂ (λ (a b : Bool). a && b) (ap₂ (λ (has filled : Bool). has && not filled) (has_along block) (filled_along block)) (leave_along ledger.current ordered)
-  allowed_along (SealBlock block) stays ordered = let none : ⊥ = cc in absurd none
-  allowed_along SealAllBlocks stays ordered = let none : ⊥ = cc in absurd none
-  allowed_along (InsertBlockAfter block after) stays ordered =
-      ap₂ (λ (a b : Bool). a && b) (ap₂ (λ (a b : Bool). a && not b) (has_along block) (inserted_along block)) (inserted_along after)
-  allowed_along (SetColdBlock block) stays ordered = has_along block
-  allowed_along EnsureInsertedBlock stays ordered = open_along
-  allowed_along (AppendBlockParams block types) stays ordered = pristine_along block
-  allowed_along (AppendFunctionParams block types) stays ordered = ap₂ (λ (a b : Bool). a && not b) (pristine_along block) (predecessors_along block)
-  allowed_along (DeclareVar ty) stays ordered = refl
-  allowed_along (DefVar variable value) stays ordered =
-      ap₂ (λ (is : Bool) (ty : Option «Type»). is && can_assign (variable_type ledger variable) ty) open_along (typed_along value)
-  allowed_along (UseVar variable) stays ordered = ap (λ (is : Bool). is && is_some (variable_type ledger variable)) open_along
-  allowed_along (MakeEntry entry) stays ordered = refl
-  allowed_along (MakeEdge edge) stays ordered = ap₂ (λ (a b : Bool). a && b) (has_along edge.target) (arguments_along edge.arguments)
-  allowed_along (MakeJumpTable default entries) stays ordered =
-      all_mapped rename (λ (name : Name). is_some (edge_named ledger name)) (λ (name : Name). is_some (edge_named other name)) edge_along (default ∷ entries)
-  allowed_along (MakeExceptionTable signature normal items) stays ordered =
-      ap₂ (λ (a b : Bool). a && b && has_entry ledger.tables (ASignatureRef signature)) (edge_along normal)
-      (all_mapped (renamed_item rename) (has_item ledger) (has_item other) item_along items)
-  allowed_along (Annotate inside values) stays ordered =
-      ap₂ (λ (is all : Bool). (if inside then is else true) && all) open_along (values_along values)
-  allowed_along (NeedStackMap need) stays ordered = need_along need
-  allowed_along (Build entries instruction) stays ordered =
-      ap₂ (λ (a b : Bool). a && b && can_operate instruction.operation instruction.controlling && list_all (has_entry ledger.tables) (operation_entries instruction.operation))
-      (ap₂ (λ (a b : Bool). a && b) (ap₂ (λ (a b : Bool). a && b)
-      (ap₂ (λ (a b : Bool). a && (tables_differ entries && b)) (values_along instruction.contexts) (all_give_along entries))
-      open_along) (values_along instruction.operands))
-      (leads_all_along instruction.edges ordered)
-  allowed_along (ChangeJumpDestination branch from to) stays ordered =
-      let both = and_parts (not (is_sealed ledger from)) (not (is_sealed ledger to)) ordered in
-      ap₂ (λ (a b : Bool). a && b) (ap₂ (λ (a b : Bool). a && b)
-      (ap₂ (λ (a b : Bool). a && b) (ap₂ (λ (a b : Bool). a && b) (built_along branch) (leads_along branch from)) (ap not (none_sealed from) ∙ sym both.0))
-      (has_along to)) (ap not (none_sealed to) ∙ sym both.1)
-  allowed_along Finalize stays ordered = refl
+  met_along : (condition : Condition) → spares ledger condition ≡ true → meets_unsealed other (renamed_condition rename condition) ≡ meets ledger condition
+  met_along (OfLists test) spared = refl
+  met_along (And one second) spared =
+      let both = and_parts (spares ledger one) (spares ledger second) spared in ap₂ (λ (a b : Bool). a && b) (met_along one both.0) (met_along second both.1)
+  met_along (Not condition) spared = ap not (met_along condition spared)
+  met_along (Where test condition) spared = ap (λ (is : Bool). if test then is else true) (met_along condition spared)
+  met_along (HasBlock block) spared = has_along block
+  met_along (OfBlock block test) spared =
+      test_along (λ (state : BlockState). test state.is_pristine state.is_filled (not (is_empty state.predecessors)))
+      (λ (state : BlockState). test state.is_pristine state.is_filled (not (is_empty state.predecessors)))
+      (λ state. ap (λ (is : Bool). test state.is_pristine state.is_filled (not is)) (empty_mapped rename state.predecessors)) block
+  met_along (IsUnsealed block) spared = ap not (none_sealed block) ∙ sym spared
+  met_along (IsInserted block) spared = inserted_along block
+  met_along IsOpen spared = open_along
+  met_along CanLeave spared = leave_along ledger.current spared
+  met_along (OfType value test) spared = ap (test ledger.variables) (typed_along value)
+  met_along (HasValues values) spared = values_along values
+  met_along (HasArguments arguments) spared = arguments_along arguments
+  met_along (HasEdge edge) spared = edge_along edge
+  met_along (HasEdges edges) spared =
+      all_mapped rename (λ (name : Name). is_some (edge_named ledger name)) (λ (name : Name). is_some (edge_named other name)) edge_along edges
+  met_along (HasItems items) spared = all_mapped (renamed_item rename) (has_item ledger) (has_item other) item_along items
+  met_along (MayGive entries) spared = all_give_along entries
+  met_along (CanLead edges) spared = leads_all_along edges spared
+  met_along (HasInstruction branch) spared = built_along branch
+  met_along (LeadsTo branch block) spared = leads_along branch block
+
+  allowed_along : (request : Request) → spares_order ledger request ≡ true → allows_unsealed other (renamed_request rename request) ≡ allows ledger request
+  allowed_along request ordered =
+      allowed_where_met_unsealed other (renamed_request rename request)
+      ∙ ap (meets_unsealed other) (renamed_asks rename request)
+      ∙ met_along (condition_of request) (order_spared ledger request ordered)
+      ∙ sym (allowed_where_met ledger request)
 
   blamed_along : (request : Request) → blames_variable other (renamed_request rename request) ≡ blames_variable ledger request
-  blamed_along CreateBlock = refl
-  blamed_along (SwitchToBlock block) = refl
-  blamed_along (SealBlock block) = refl
-  blamed_along SealAllBlocks = refl
-  blamed_along (InsertBlockAfter block after) = refl
-  blamed_along (SetColdBlock block) = refl
-  blamed_along EnsureInsertedBlock = refl
-  blamed_along (AppendBlockParams block types) = refl
-  blamed_along (AppendFunctionParams block types) = refl
-  blamed_along (DeclareVar ty) = refl
   blamed_along (DefVar variable value) =
       ap₂ (λ (a : Bool) (ty : Option «Type»). a && not (can_assign (variable_type ledger variable) ty)) (ap₂ (λ (a b : Bool). a && b) open_along (value_along value)) (typed_along value)
   blamed_along (UseVar variable) = ap (λ (is : Bool). is && not (is_some (variable_type ledger variable))) open_along
-  blamed_along (MakeEntry entry) = refl
-  blamed_along (MakeEdge edge) = refl
-  blamed_along (MakeJumpTable default entries) = refl
-  blamed_along (MakeExceptionTable signature normal items) = refl
-  blamed_along (Annotate inside values) = refl
-  blamed_along (NeedStackMap need) = refl
-  blamed_along (Build entries instruction) = refl
-  blamed_along (ChangeJumpDestination branch from to) = refl
-  blamed_along Finalize = refl
+  blamed_along _ = refl
 
   -- REFUSALS --------------------------------------------------------------------------------------------------------------
 
@@ -288,27 +292,8 @@ module _ (rename : Name → Name) (apart : KeepsApart rename) (ledger : Ledger) 
       by false false filled is = let none : ⊥ = cc in absurd none
 
   refused_along : (request : Request) → spares_order ledger request ≡ true → refuses_unsealed other (renamed_request rename request) ≡ is_some (refusal_of ledger request)
-  refused_along CreateBlock ordered = refl
-  refused_along (SwitchToBlock block) ordered = refl
-  refused_along (SealBlock block) ordered = refl
-  refused_along SealAllBlocks ordered = refl
-  refused_along (InsertBlockAfter block after) ordered = refl
-  refused_along (SetColdBlock block) ordered = refl
-  refused_along EnsureInsertedBlock ordered = refl
-  refused_along (AppendBlockParams block types) ordered = refl
-  refused_along (AppendFunctionParams block types) ordered = refl
-  refused_along (DeclareVar ty) ordered = refl
-  refused_along (DefVar variable value) ordered = refl
-  refused_along (UseVar variable) ordered = refl
-  refused_along (MakeEntry entry) ordered = refl
-  refused_along (MakeEdge edge) ordered = refl
-  refused_along (MakeJumpTable default entries) ordered = refl
-  refused_along (MakeExceptionTable signature normal items) ordered = refl
-  refused_along (Annotate inside values) ordered = refl
-  refused_along (NeedStackMap need) ordered = refl
-  refused_along (Build entries instruction) ordered = refl
-  refused_along (ChangeJumpDestination branch from to) ordered = refl
   refused_along Finalize ordered = ended_along ledger.blocks ordered
+  refused_along _ ordered = refl
 
   -- CALLS OF SCRIPTS ------------------------------------------------------------------------------------------------------
 
@@ -322,7 +307,7 @@ module _ (rename : Name → Name) (apart : KeepsApart rename) (ledger : Ledger) 
 
   pub call_allowed_along : (call : ScriptCall) → is_sealing (counted_as call) ≡ false → spares_call_order ledger call ≡ true
       → call_allows_unsealed other (renamed_call rename call) ≡ call_allowed ledger call
-  call_allowed_along (Ask request) stays ordered = allowed_along request stays ordered
+  call_allowed_along (Ask request) stays ordered = allowed_along request ordered
   call_allowed_along (Emit imports instruction) stays ordered =
       ap₂ (λ (a b : Bool). a && b && can_emit instruction.operation instruction.controlling)
       (ap₂ (λ (a b : Bool). a && b) (ap₂ (λ (a b : Bool). a && b)
