@@ -62,6 +62,7 @@ renamed_program_effect rename (DefVar variable value) = BothAssign variable valu
 renamed_program_effect rename (UseVar variable) = BothUse variable refl
 renamed_program_effect rename (Build entries instruction) = BothBuild entries instruction refl
 renamed_program_effect rename (ChangeJumpDestination branch from to) = BothRedirect branch from to (λ program. refl) (λ program. refl)
+-- the others add nothing
 renamed_program_effect rename _ = BothLeave (λ program. refl) (λ program. refl)
 
 -- THE LEDGER ------------------------------------------------------------------------------------------------------------
@@ -148,6 +149,7 @@ renamed_ledger_effect rename (NeedStackMap need) =
     (λ ledger. ap (λ (states : List VariableState). record ledger { variables = states }) (needed_alike rename need ledger.variables))
 renamed_ledger_effect rename (Build entries instruction) = BothAppend entries instruction refl
 renamed_ledger_effect rename (ChangeJumpDestination branch from to) = BothChangeJump branch from to refl
+-- the others change nothing
 renamed_ledger_effect rename _ = BothList (λ states. states) (λ tables. tables) (λ ledger. refl) (λ ledger. refl)
 
 -- CONDITIONS ------------------------------------------------------------------------------------------------------------

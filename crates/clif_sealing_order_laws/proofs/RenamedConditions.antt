@@ -47,7 +47,7 @@ allowed_where_met_unsealed : (ledger : Ledger) (request : Request) → allows_un
 allowed_where_met_unsealed ledger (NeedStackMap (OfVariable variable)) = refl
 allowed_where_met_unsealed ledger _ = refl
 
--- sealing isn't to blame where this isn't met
+-- sealing isn't to blame where this isn't met: what it has a part in is as it would be with nothing sealed
 abbrev spares : Ledger → Condition → Bool
 spares ledger (And one other) = spares ledger one && spares ledger other
 spares ledger (Not condition) = spares ledger condition
