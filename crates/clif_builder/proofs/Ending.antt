@@ -116,9 +116,13 @@ pub on_ok_both : {E A B C : Type 0} (r : Result (Unit {0}) E) → (A → B → C
 on_ok_both (Ok u) both a b = both a b
 on_ok_both (Err e) both a b = tt
 
-pub on_ok_given : {E A B : Type 0} (r : Result (Unit {0}) E) → (A → OnOk r B) → OnOk r (A → B)
-on_ok_given (Ok u) f = f
-on_ok_given (Err e) f = tt
+pub on_ok_three : {E A B C D : Type 0} (r : Result (Unit {0}) E) → (A → B → C → D) → OnOk r A → OnOk r B → OnOk r C → OnOk r D
+on_ok_three (Ok u) all a b c = all a b c
+on_ok_three (Err e) all a b c = tt
+
+pub on_ok_given : {E : Type 0} (A B : Type 0) (r : Result (Unit {0}) E) → (A → OnOk r B) → OnOk r (A → B)
+on_ok_given A B (Ok u) f = f
+on_ok_given A B (Err e) f = tt
 
 -- what the blocks lack is answered
 lack_is_told : {R : Type 0} (b : FunctionBuilder R) (answer : Result (Unit {0}) FinalizeError) (lack : FinalizeError) → Ends b answer

@@ -55,3 +55,4 @@ pub mod Regions
 mod Spilled
 pub mod ReadByNumber
 pub mod StandingForCalls
+mod SealingAlone

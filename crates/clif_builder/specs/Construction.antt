@@ -6,7 +6,7 @@ use Rattle.clif_ir.specs.Body.{Body}
 use Rattle.clif_instructions.specs.Members.{stands_in, Once}
 use Rattle.clif_paths.specs.Blocks.{Blocks}
 use Rattle.clif_ssa.specs.Own.{Own}
-use Rattle.clif_ssa.specs.Ssa.{SsaState, RecordsStay, SamePredecessors, SealedStays, sealed_of}
+use Rattle.clif_ssa.specs.Ssa.{SsaState, RecordsStay, SamePredecessors, SameRecords, SealedStays, Seals, sealed_of}
 use Rattle.clif_ssa.specs.Sound.{Keeps, KeepsAndKnows, SparesIfEntry}
 use Rattle.clif_ssa.specs.SoundLaws.{DescribesSoundly}
 use Rattle.clif_ssa.specs.Structure.{HasRecordOf, Remembers}
@@ -51,6 +51,13 @@ pub record IsSealingOf (f : Body) (s : SsaState) (g : Body) (t : SsaState) (seal
 -- A block is sealed.
 abbrev pub IsSealing : Body → SsaState → Body → SsaState → ℕ → List ℕ → Type 0
 IsSealing f s g t block told = IsSealingOf f s g t (λ b. b == block) told
+
+-- A block in which no parameter waits is sealed, and nothing else happens.
+pub record SealsAlone (f : Body) (s : SsaState) (g : Body) (t : SsaState) (block : ℕ) : Type 0 where
+  pub function : g ≡ f
+  pub sealed : Seals s t block
+  pub records : SameRecords s t
+  pub tracking : t.tracking ≡ s.tracking
 
 -- no other block is sealed that wasn't
 abbrev pub SealsAtMost : SsaState → SsaState → ℕ → Type 0

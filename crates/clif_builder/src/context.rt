@@ -131,7 +131,7 @@ impl Model for ContextParts {
 
 impl ContextParts {
     ghost use Rattle.clif_builder.specs.Context.{Begins, SameVariables, SetsStatus, TouchesVariable, empty_context, is_untouched, status_of};
-    ghost use Rattle.clif_builder.specs.Construction.{IsUse, IsSealing, IsSealingAll, IsDeclared};
+    ghost use Rattle.clif_builder.specs.Construction.{IsUse, IsSealing, IsSealingAll, IsDeclared, SealsAlone};
     ghost use Rattle.clif_ir.specs.Body.{Body, empty_function};
     ghost use Rattle.clif_instructions.specs.Edges.{targets};
     ghost use Rattle.clif_instructions.specs.Members.{Stands};
@@ -360,6 +360,7 @@ impl ContextParts {
         ensures records { predecessors_of self.old.ssa block ≡ [] → SameRecords self.old.ssa self.new.ssa }
         ensures function { predecessors_of self.old.ssa block ≡ [] → OnOk result (func.new ≡ completed func.old (pending_of (sealed_of self.old.ssa block))) }
         ensures is_sealing { OnOk result ((told : List ℕ) × IsSealing func.old self.old.ssa func.new self.new.ssa block told × Begins self.old self.new told) }
+        ensures alone { pending_of (sealed_of self.old.ssa block) ≡ [] → OnOk result (SealsAlone func.old self.old.ssa func.new self.new.ssa block) }
         ensures names { NamesExist func.new self.new.ssa }
         ensures looks_once { LooksOnce self.old.ssa → LooksOnce self.new.ssa }
         ensures more { HasMore func.old func.new }

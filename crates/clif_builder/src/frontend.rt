@@ -3,7 +3,7 @@ ghost use Rattle.std.specs.Prelude.{◌≡◌, ◌≢◌, ◌<◌, ◌-◌, ◌^
 ghost use Rattle.clif_builder.specs.Clear.{IsClear};
 ghost use Rattle.clif_builder.specs.Context.{Begins, IsFresh, SameVariables, SetsStatus, TouchesVariable, begun, status_of};
 ghost use Rattle.clif_builder.specs.Growth.{Grows, HasRecordIn, RemembersIn};
-ghost use Rattle.clif_builder.specs.Construction.{IsUse, IsSealing, IsSealingAll, SealsAtMost};
+ghost use Rattle.clif_builder.specs.Construction.{IsUse, IsSealing, IsSealingAll, SealsAlone, SealsAtMost};
 ghost use Rattle.clif_builder.specs.Calls.{IsCall, IsTold, answered};
 ghost use Rattle.clif_builder.specs.Order.{IsUntouched};
 ghost use Rattle.clif_builder.specs.Tracking.{TracksBinding};
@@ -268,6 +268,9 @@ impl<'a, R> FunctionBuilder<'a, R> {
         ensures call { IsCall self.old self.new result }
         ensures function { predecessors_of self.old.ctx.now.parts.ssa block ≡ [] → OnOk result (self.new.func.now ≡ completed self.old.func.now (pending_of (sealed_of self.old.ctx.now.parts.ssa block))) }
         ensures is_sealing { OnOk result ((told : List ℕ) × IsSealing self.old.func.now self.old.ctx.now.parts.ssa self.new.func.now self.new.ctx.now.parts.ssa block told × Begins self.old.ctx.now.parts self.new.ctx.now.parts told) }
+        ensures alone { pending_of (sealed_of self.old.ctx.now.parts.ssa block) ≡ []
+            → OnOk result (SealsAlone self.old.func.now self.old.ctx.now.parts.ssa
+            self.new.func.now self.new.ctx.now.parts.ssa block) }
         ensures sealed { predecessors_of self.old.ctx.now.parts.ssa block ≡ [] → OnOk result (Seals self.old.ctx.now.parts.ssa self.new.ctx.now.parts.ssa block) }
         ensures others { OnOk result (SealsAtMost self.old.ctx.now.parts.ssa self.new.ctx.now.parts.ssa block) }
         ensures records { predecessors_of self.old.ctx.now.parts.ssa block ≡ [] → SameRecords self.old.ctx.now.parts.ssa self.new.ctx.now.parts.ssa }

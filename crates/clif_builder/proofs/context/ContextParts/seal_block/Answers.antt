@@ -1,4 +1,4 @@
-use Rattle.std.proofs.Common.{List, ℕ, refl, sym, ap, subst}
+use Rattle.std.proofs.Common.{◌≡◌, List, [], ℕ, refl, sym, ap, subst, ◌∙◌}
 use Rattle.std.proofs.lemmas.Bool.{eq-eqb}
 use Rattle.std.specs.Prelude.{Contains}
 use Rattle.clif_records.specs.Tables.{pending_of}
@@ -7,9 +7,10 @@ use Rattle.std.proofs.lemmas.Result.{err_from_is_err_and}
 use Rattle.clif_ssa.specs.Pools.{types_of, SealingIsFull}
 use Rattle.clif_ssa.proofs.PuttingSteps.{full_before}
 use Rattle.clif_builder.specs.Context.{ContextState}
-use Rattle.clif_builder.specs.Construction.{IsSealing}
+use Rattle.clif_builder.specs.Construction.{IsSealing, SealsAlone}
 use Rattle.clif_builder.proofs.Growing.{on_ok_step}
 use Rattle.clif_builder.proofs.Made.{seal_makes}
+use Rattle.clif_builder.proofs.SealingAlone.{seals_alone}
 use Rattle.clif_builder.proofs.Statuses.{begins_from}
 use Rattle.clif_builder.proofs.Tracks.{tracks}
 use Rattle.clif_builder.proofs.context.ContextParts.seal_block.Goals as goal
@@ -39,6 +40,16 @@ returns-clause-is_sealing c =
       begins_from c.args.self.now (record { ssa = c.seal_block.new.self; status = c.self.inside.status; variables = c.self.inside.variables.items; touched = c.self.inside.touched }) c.begin_all.new.self c.as_slice.result.now told
           (ap (λ (v : ContextState). v.status) c.self.view_is) c.as_slice.ensures.value begins,
     )) c.begin_all.ensures.status
+
+pub returns-clause-alone : goal.returns-clause-alone
+returns-clause-alone c = λ none.
+    let done = c.in_ok-side_effects.ensures in
+    let here : pending_of (sealed_of c.self.inside.ssa c.args.block) ≡ [] = ap (λ (v : ContextState). pending_of (sealed_of v.ssa c.args.block)) c.self.view_is ∙ none in
+    let sealed : SealsAlone c.args.func.now c.self.inside.ssa c.seal_block.new.func c.seal_block.new.self c.args.block =
+    seals_alone c.args.func.now c.seal_block.new.func c.self.inside.ssa c.seal_block.new.self c.args.block c.in_ok-side_effects.side_effects here done.local done.completes in
+    on_ok_step c.begin_all.result _ _ (λ begins.
+    subst (λ (v : ContextState). SealsAlone c.args.func.now v.ssa c.seal_block.new.func c.begin_all.new.self.ssa c.args.block) c.self.view_is
+    (subst (λ (t : SsaState). SealsAlone c.args.func.now c.self.inside.ssa c.seal_block.new.func t c.args.block) (sym c.begin_all.ensures.ssa) sealed)) c.begin_all.ensures.status
 
 pub returns-clause-stay : goal.returns-clause-stay
 returns-clause-stay c =

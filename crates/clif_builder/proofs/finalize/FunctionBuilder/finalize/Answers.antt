@@ -1,8 +1,11 @@
-use Rattle.clif_meaning.specs.Request.{Finalize}
+use Rattle.clif_meaning.specs.Premises.{CallersEdgesMatch}
+use Rattle.clif_meaning.specs.Request.{Finalize, script_of}
+use Rattle.clif_meaning.specs.Typing.{EdgesMatch}
+use Rattle.clif_meaning.specs.View.{view_of}
 use Rattle.clif_meaning.specs.Acceptance.{refusal_of}
 use Rattle.clif_builder.specs.Ending.{recorded_in}
 use Rattle.clif_builder.specs.Ledger.{ledger_of}
-use Rattle.clif_builder.proofs.Ending.{ends_after, ends_by_ledger, on_ok_both, on_ok_given, on_ok_map, sound_where_ok}
+use Rattle.clif_builder.proofs.Ending.{ends_after, ends_by_ledger, on_ok_both, on_ok_given, on_ok_map, on_ok_three, sound_where_ok}
 use Rattle.clif_builder.proofs.Finishing.{as_found, finished_where_ok}
 use Rattle.clif_builder.proofs.LedgerEnds.{finished}
 use Rattle.clif_builder.proofs.Named.{kept_recorded}
@@ -46,12 +49,12 @@ returns-clause-found g c = λ signature calls stands.
 
 pub returns-clause-calls : goal.returns-clause-calls
 returns-clause-calls g c = λ signature calls so_far.
-    on_ok_both c.finish-answer.result
-    (λ means rest. finishes c.args.config.pointer_width signature calls c.args.self so_far c.finish-answer.new.func means rest.0 rest.1)
+    on_ok_three c.finish-answer.result
+    (λ means matches found. finishes c.args.config.pointer_width signature calls c.args.self so_far c.finish-answer.new.func means matches found)
     (returns-clause-same_meaning g c signature so_far.made so_far.stands)
-    (on_ok_both c.finish-answer.result (λ matches found. (matches, found))
-    (on_ok_given c.finish-answer.result (λ typed. returns-clause-edges_match g c signature so_far.made so_far.stands typed))
-    (returns-clause-found g c signature so_far.made so_far.stands))
+    (on_ok_given (CallersEdgesMatch (script_of so_far.made)) (EdgesMatch (view_of c.finish-answer.new.func)) c.finish-answer.result
+    (returns-clause-edges_match g c signature so_far.made so_far.stands))
+    (returns-clause-found g c signature so_far.made so_far.stands)
 
 -- the context is given back first
 pub invariant_of-self-2 : goal.invariant_of-self-2
