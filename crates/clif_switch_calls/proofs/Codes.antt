@@ -4,7 +4,7 @@ use Rattle.clif_meaning.specs.Instruction.{Instruction}
 use Rattle.clif_meaning.specs.Name.{Name, answer_of}
 use Rattle.clif_types.specs.declared.types.«Type».{«Type»}
 use Rattle.clif_meaning.specs.Program.{Item, Instruct, Program, result_names, result_types}
-use Rattle.clif_meaning.specs.Request.{Request, CreateBlock, SwitchToBlock, SealBlock, SealAllBlocks, InsertBlockAfter, SetColdBlock, EnsureInsertedBlock, AppendBlockParams, AppendFunctionParams, DeclareVar, DefVar, UseVar, MakeEntry, MakeEdge, MakeJumpTable, MakeExceptionTable, Annotate, NeedStackMap, Build, ChangeJumpDestination, Finalize, Script}
+use Rattle.clif_meaning.specs.Request.{Request, SwitchToBlock, MakeEdge, Build, Script}
 use Rattle.clif_expansion.specs.Emission.{building}
 use Rattle.clif_expansion.specs.JoinedPrograms.{built_items}
 use Rattle.clif_switch_calls.specs.SwitchCalls.{bare_edge}
@@ -79,27 +79,8 @@ typed_edges types place (target ∷ targets) more typed =
 -- BEHIND OTHER CALLS ------------------------------------------------------------------------------------------------------
 
 entered_next : (program : Program) (place : ℕ) (request : Request) (more : Script) → Entered program place (request ∷ more) → Entered program (suc place) more
-entered_next program place CreateBlock more entered = entered
 entered_next program place (SwitchToBlock block) more entered = entered.1
-entered_next program place (SealBlock block) more entered = entered
-entered_next program place SealAllBlocks more entered = entered
-entered_next program place (InsertBlockAfter block after) more entered = entered
-entered_next program place (SetColdBlock block) more entered = entered
-entered_next program place EnsureInsertedBlock more entered = entered
-entered_next program place (AppendBlockParams block types) more entered = entered
-entered_next program place (AppendFunctionParams block types) more entered = entered
-entered_next program place (DeclareVar ty) more entered = entered
-entered_next program place (DefVar variable value) more entered = entered
-entered_next program place (UseVar variable) more entered = entered
-entered_next program place (MakeEntry entry) more entered = entered
-entered_next program place (MakeEdge edge) more entered = entered
-entered_next program place (MakeJumpTable default entries) more entered = entered
-entered_next program place (MakeExceptionTable signature normal items) more entered = entered
-entered_next program place (Annotate inside values) more entered = entered
-entered_next program place (NeedStackMap need) more entered = entered
-entered_next program place (Build entries instruction) more entered = entered
-entered_next program place (ChangeJumpDestination branch from to) more entered = entered
-entered_next program place Finalize more entered = entered
+entered_next program place _ more entered = entered
 
 pub entered_behind : (program : Program) (place : ℕ) (calls more : Script) → Entered program place (calls ++ more) → Entered program (place + length calls) more
 entered_behind program place [] more entered = subst (λ (p : ℕ). Entered program p more) (place_here place) entered
@@ -108,27 +89,8 @@ entered_behind program place (request ∷ calls) more entered =
     (entered_behind program (suc place) calls more (entered_next program place request (calls ++ more) entered))
 
 typed_next : (types : Name → «Type») (place : ℕ) (request : Request) (more : Script) → AreTyped types place (request ∷ more) → AreTyped types (suc place) more
-typed_next types place CreateBlock more typed = typed
-typed_next types place (SwitchToBlock block) more typed = typed
-typed_next types place (SealBlock block) more typed = typed
-typed_next types place SealAllBlocks more typed = typed
-typed_next types place (InsertBlockAfter block after) more typed = typed
-typed_next types place (SetColdBlock block) more typed = typed
-typed_next types place EnsureInsertedBlock more typed = typed
-typed_next types place (AppendBlockParams block params) more typed = typed
-typed_next types place (AppendFunctionParams block params) more typed = typed
-typed_next types place (DeclareVar ty) more typed = typed
-typed_next types place (DefVar variable value) more typed = typed
-typed_next types place (UseVar variable) more typed = typed
-typed_next types place (MakeEntry entry) more typed = typed
-typed_next types place (MakeEdge edge) more typed = typed
-typed_next types place (MakeJumpTable default entries) more typed = typed
-typed_next types place (MakeExceptionTable signature normal items) more typed = typed
-typed_next types place (Annotate inside values) more typed = typed
-typed_next types place (NeedStackMap need) more typed = typed
 typed_next types place (Build entries instruction) more typed = typed.1
-typed_next types place (ChangeJumpDestination branch from to) more typed = typed
-typed_next types place Finalize more typed = typed
+typed_next types place _ more typed = typed
 
 pub typed_behind : (types : Name → «Type») (place : ℕ) (calls more : Script) → AreTyped types place (calls ++ more) → AreTyped types (place + length calls) more
 typed_behind types place [] more typed = subst (λ (p : ℕ). AreTyped types p more) (place_here place) typed

@@ -17,7 +17,7 @@ use Rattle.clif_ranges.proofs.Searching.{begins}
 use Rattle.clif_meaning.specs.Acceptance.{table_branch}
 use Rattle.clif_meaning.specs.Instruction.{Compare, Instruction}
 use Rattle.clif_meaning.specs.Name.{Name, answer_of}
-use Rattle.clif_meaning.specs.Request.{Request, CreateBlock, SwitchToBlock, SealBlock, SealAllBlocks, InsertBlockAfter, SetColdBlock, EnsureInsertedBlock, AppendBlockParams, AppendFunctionParams, DeclareVar, DefVar, UseVar, MakeEntry, MakeEdge, MakeJumpTable, MakeExceptionTable, Annotate, NeedStackMap, Build, ChangeJumpDestination, Finalize, ServedBy, Script}
+use Rattle.clif_meaning.specs.Request.{Request, CreateBlock, MakeEdge, MakeJumpTable, Build, ServedBy, Script}
 use Rattle.clif_expansion.specs.Emission.{building}
 use Rattle.clif_expansion.specs.Switching.{targets_of}
 use Rattle.clif_expansion.proofs.Placing.{contained_first, contained_later}
@@ -32,51 +32,13 @@ module _ (base tables : ℕ) (targets : List Name) where
   To target script = BranchesTo base tables targets target script
 
   to_behind : (target : Name) (request : Request) (more : Script) → To target more → To target (request ∷ more)
-  to_behind target CreateBlock more to = to
-  to_behind target (SwitchToBlock block) more to = to
-  to_behind target (SealBlock block) more to = to
-  to_behind target SealAllBlocks more to = to
-  to_behind target (InsertBlockAfter block after) more to = to
-  to_behind target (SetColdBlock block) more to = to
-  to_behind target EnsureInsertedBlock more to = to
-  to_behind target (AppendBlockParams block params) more to = to
-  to_behind target (AppendFunctionParams block params) more to = to
-  to_behind target (DeclareVar ty) more to = to
-  to_behind target (DefVar variable value) more to = to
-  to_behind target (UseVar variable) more to = to
-  to_behind target (MakeEntry entry) more to = to
-  to_behind target (MakeEdge edge) more to = to
-  to_behind target (MakeJumpTable default entries) more to = to
-  to_behind target (MakeExceptionTable signature normal items) more to = to
-  to_behind target (Annotate inside values) more to = to
-  to_behind target (NeedStackMap need) more to = to
   to_behind target (Build entries instruction) more to = inr to
-  to_behind target (ChangeJumpDestination branch from into) more to = to
-  to_behind target Finalize more to = to
+  to_behind target _ more to = to
 
   to_within : (target : Name) (request : Request) (calls more : Script) → (To target calls → To target (calls ++ more)) → To target (request ∷ calls) → To target (request ∷ (calls ++ more))
-  to_within target CreateBlock calls more later to = later to
-  to_within target (SwitchToBlock block) calls more later to = later to
-  to_within target (SealBlock block) calls more later to = later to
-  to_within target SealAllBlocks calls more later to = later to
-  to_within target (InsertBlockAfter block after) calls more later to = later to
-  to_within target (SetColdBlock block) calls more later to = later to
-  to_within target EnsureInsertedBlock calls more later to = later to
-  to_within target (AppendBlockParams block params) calls more later to = later to
-  to_within target (AppendFunctionParams block params) calls more later to = later to
-  to_within target (DeclareVar ty) calls more later to = later to
-  to_within target (DefVar variable value) calls more later to = later to
-  to_within target (UseVar variable) calls more later to = later to
-  to_within target (MakeEntry entry) calls more later to = later to
-  to_within target (MakeEdge edge) calls more later to = later to
-  to_within target (MakeJumpTable default entries) calls more later to = later to
-  to_within target (MakeExceptionTable signature normal items) calls more later to = later to
-  to_within target (Annotate inside values) calls more later to = later to
-  to_within target (NeedStackMap need) calls more later to = later to
   to_within target (Build entries instruction) calls more later (inl here) = inl here
   to_within target (Build entries instruction) calls more later (inr to) = inr (later to)
-  to_within target (ChangeJumpDestination branch from into) calls more later to = later to
-  to_within target Finalize calls more later to = later to
+  to_within target _ calls more later to = later to
 
   pub to_right : (target : Name) (calls more : Script) → To target more → To target (calls ++ more)
   to_right target [] more to = to

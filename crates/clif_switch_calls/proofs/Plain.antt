@@ -4,10 +4,11 @@ use Rattle.std.specs.Prelude.{if◌then◌else◌, find, fold, option_and_then, 
 use Rattle.std.specs.List.{AllByRecursion, list_any}
 use Rattle.clif_types.specs.declared.types.«Type».{«Type»}
 use Rattle.clif_meaning.specs.Instruction.{Edge, Instruction}
-use Rattle.clif_meaning.specs.Ledger.{AValue, AnInstruction, Answered, BlockState, Ledger, answers_to, block_state, has_block, changed_by, empty_ledger, is_inserted, is_terminator, ledger_after, ledger_with, led_by, left_by, new_block, next_answer, redirected_state, sealed, value_answer_type, with_begun, with_begun_at, with_cold_mark, with_filled_at, with_instruction, with_layout, with_parameter_types, with_predecessor, with_state, with_terminator}
+use Rattle.clif_meaning.specs.Ledger.{AValue, AnInstruction, Answered, BlockState, Ledger, answers_to, block_state, has_block, changed_by, empty_ledger, is_inserted, is_terminator, ledger_after, ledger_with, led_by, new_block, next_answer, value_answer_type, with_begun, with_begun_at, with_filled_at, with_instruction, with_layout, with_predecessor, with_state, with_terminator}
 use Rattle.clif_meaning.specs.Name.{Name, answer_of, same_name}
 use Rattle.clif_meaning.specs.Program.{Program, result_types, with_call}
-use Rattle.clif_meaning.specs.Request.{Request, CreateBlock, SwitchToBlock, SealBlock, SealAllBlocks, InsertBlockAfter, SetColdBlock, EnsureInsertedBlock, AppendBlockParams, AppendFunctionParams, DeclareVar, DefVar, UseVar, MakeEntry, MakeEdge, MakeJumpTable, MakeExceptionTable, Annotate, NeedStackMap, Build, ChangeJumpDestination, Finalize, Script}
+use Rattle.clif_meaning.specs.Request.{Request, Build, Script}
+use Rattle.clif_meaning.proofs.Effects.{LedgerEffect, ledger_effect, Keeps, Lays, Changes, Begins, Creates, Enters, ChangesEach, Declares, Touches, Reads, Marks, Appends}
 use Rattle.clif_expansion.specs.PerformedCalls.{HaveTypes}
 use Rattle.clif_expansion.proofs.EmittedPrograms.{one_longer}
 use Rattle.clif_expansion.proofs.Joins.{answers_last}
@@ -87,15 +88,6 @@ built_names ledger instruction =
     by true = filled_names (with_begun ledger) (with_begun ledger).current
     by false = refl
 
-redirected_name : (branch from to : Name) (s : BlockState) → (redirected_state branch from to s).block ≡ s.block
-redirected_name branch from to s = by (same_name from to) (same_name s.block from) (same_name s.block to)
-  where
-    by : (a b c : Bool) → (if a then s else (if b then left_by branch s else (if c then led_by branch s else s))).block ≡ s.block
-    by true b c = refl
-    by false true c = refl
-    by false false true = led_name branch s
-    by false false false = refl
-
 -- each block was made before
 abbrev pub AreBefore : ℕ → List Name → Type 0
 AreBefore bound names = AllByRecursion (λ x. x.place < bound) names
@@ -108,38 +100,38 @@ before_last : (bound : ℕ) (blocks : List BlockState) (last : BlockState) → l
 before_last bound [] last below all = (below, tt)
 before_last bound (s ∷ blocks) last below all = (all.0, before_last bound blocks last below all.1)
 
+-- each block of the later ledger was made before the next call
+abbrev Follows : Ledger → Ledger → Type 0
+Follows ledger later = AreBefore (suc (length ledger.answers)) (names_of later.blocks)
+
 pub kept_names : (ledger : Ledger) (request : Request) → AreBefore (length ledger.answers) (names_of ledger.blocks) → AreBefore (suc (length ledger.answers)) (names_of (changed_by ledger request).blocks)
-kept_names ledger CreateBlock all =
-    before_last (suc (length ledger.answers)) ledger.blocks (new_block (next_answer ledger)) (omega arith) (before_more (length ledger.answers) (suc (length ledger.answers)) (names_of ledger.blocks) (omega arith) all)
-kept_names ledger (SwitchToBlock block) all = before_more (length ledger.answers) (suc (length ledger.answers)) (names_of ledger.blocks) (omega arith) all
-kept_names ledger (SealBlock block) all =
-    subst (AreBefore (suc (length ledger.answers))) (sym (state_names ledger block sealed (λ s. refl))) (before_more (length ledger.answers) (suc (length ledger.answers)) (names_of ledger.blocks) (omega arith) all)
-kept_names ledger SealAllBlocks all =
-    subst (AreBefore (suc (length ledger.answers))) (sym (mapped_names sealed (λ s. refl) ledger.blocks)) (before_more (length ledger.answers) (suc (length ledger.answers)) (names_of ledger.blocks) (omega arith) all)
-kept_names ledger (InsertBlockAfter block after) all = before_more (length ledger.answers) (suc (length ledger.answers)) (names_of ledger.blocks) (omega arith) all
-kept_names ledger (SetColdBlock block) all =
-    subst (AreBefore (suc (length ledger.answers))) (sym (state_names ledger block with_cold_mark (λ s. refl))) (before_more (length ledger.answers) (suc (length ledger.answers)) (names_of ledger.blocks) (omega arith) all)
-kept_names ledger EnsureInsertedBlock all =
-    subst (AreBefore (suc (length ledger.answers))) (sym (begun_names ledger ledger.current)) (before_more (length ledger.answers) (suc (length ledger.answers)) (names_of ledger.blocks) (omega arith) all)
-kept_names ledger (AppendBlockParams block params) all =
-    subst (AreBefore (suc (length ledger.answers))) (sym (state_names ledger block (with_parameter_types params) (λ s. refl))) (before_more (length ledger.answers) (suc (length ledger.answers)) (names_of ledger.blocks) (omega arith) all)
-kept_names ledger (AppendFunctionParams block params) all =
-    subst (AreBefore (suc (length ledger.answers))) (sym (state_names ledger block (with_parameter_types params) (λ s. refl))) (before_more (length ledger.answers) (suc (length ledger.answers)) (names_of ledger.blocks) (omega arith) all)
-kept_names ledger (DeclareVar ty) all = before_more (length ledger.answers) (suc (length ledger.answers)) (names_of ledger.blocks) (omega arith) all
-kept_names ledger (DefVar variable value) all = before_more (length ledger.answers) (suc (length ledger.answers)) (names_of ledger.blocks) (omega arith) all
-kept_names ledger (UseVar variable) all =
-    subst (AreBefore (suc (length ledger.answers))) (sym (begun_names ledger ledger.current)) (before_more (length ledger.answers) (suc (length ledger.answers)) (names_of ledger.blocks) (omega arith) all)
-kept_names ledger (MakeEntry entry) all = before_more (length ledger.answers) (suc (length ledger.answers)) (names_of ledger.blocks) (omega arith) all
-kept_names ledger (MakeEdge edge) all = before_more (length ledger.answers) (suc (length ledger.answers)) (names_of ledger.blocks) (omega arith) all
-kept_names ledger (MakeJumpTable default entries) all = before_more (length ledger.answers) (suc (length ledger.answers)) (names_of ledger.blocks) (omega arith) all
-kept_names ledger (MakeExceptionTable signature normal items) all = before_more (length ledger.answers) (suc (length ledger.answers)) (names_of ledger.blocks) (omega arith) all
-kept_names ledger (Annotate inside values) all = before_more (length ledger.answers) (suc (length ledger.answers)) (names_of ledger.blocks) (omega arith) all
-kept_names ledger (NeedStackMap need) all = before_more (length ledger.answers) (suc (length ledger.answers)) (names_of ledger.blocks) (omega arith) all
-kept_names ledger (Build entries instruction) all =
-    subst (AreBefore (suc (length ledger.answers))) (sym (built_names ledger instruction)) (before_more (length ledger.answers) (suc (length ledger.answers)) (names_of ledger.blocks) (omega arith) all)
-kept_names ledger (ChangeJumpDestination branch from to) all =
-    subst (AreBefore (suc (length ledger.answers))) (sym (mapped_names (redirected_state branch from to) (redirected_name branch from to) ledger.blocks)) (before_more (length ledger.answers) (suc (length ledger.answers)) (names_of ledger.blocks) (omega arith) all)
-kept_names ledger Finalize all = before_more (length ledger.answers) (suc (length ledger.answers)) (names_of ledger.blocks) (omega arith) all
+kept_names ledger request all = by (ledger_effect request)
+  where
+    of_ledger : (later : Ledger) → changed_by ledger request ≡ later → Follows ledger later → Follows ledger (changed_by ledger request)
+    of_ledger later is holds = subst (Follows ledger) (sym is) holds
+
+    of_request : (other : Request) → request ≡ other → Follows ledger (changed_by ledger other) → Follows ledger (changed_by ledger request)
+    of_request other is holds = subst (λ (r : Request). Follows ledger (changed_by ledger r)) (sym is) holds
+
+    old : Follows ledger ledger
+    old = before_more (length ledger.answers) (suc (length ledger.answers)) (names_of ledger.blocks) (omega arith) all
+
+    same : (later : Ledger) → names_of later.blocks ≡ names_of ledger.blocks → Follows ledger later
+    same later is = subst (AreBefore (suc (length ledger.answers))) (sym is) old
+
+    by : LedgerEffect request → Follows ledger (changed_by ledger request)
+    by (Keeps stays is) = of_ledger _ (is ledger) old
+    by (Lays layout tables jump_tables exception_tables stays is) = of_ledger _ (is ledger) old
+    by (Changes block change keeps stays is) = of_ledger _ (is ledger) (same (with_state ledger block change) (state_names ledger block change keeps.name))
+    by (Begins stays is) = of_ledger _ (is ledger) (same (with_begun ledger) (begun_names ledger ledger.current))
+    by (Creates is) = of_request _ is (before_last (suc (length ledger.answers)) ledger.blocks (new_block (next_answer ledger)) (omega arith) old)
+    by (Enters block is) = of_request _ is old
+    by (ChangesEach change keeps stays is) = of_ledger _ (is ledger) (same (record ledger { blocks = map change ledger.blocks }) (mapped_names change keeps.name ledger.blocks))
+    by (Declares ty is) = of_request _ is old
+    by (Touches variable value is) = of_request _ is old
+    by (Reads variable is) = of_request _ is (same (with_begun ledger) (begun_names ledger ledger.current))
+    by (Marks need is) = of_request _ is old
+    by (Appends entries instruction is) = of_request _ is (same (with_instruction ledger instruction) (built_names ledger instruction))
 
 blocks_before : (script : Script) (ledger : Ledger) → AreBefore (length ledger.answers) (names_of ledger.blocks)
     → AreBefore (length (fold ledger_with ledger script).answers) (names_of (fold ledger_with ledger script).blocks)
@@ -185,53 +177,15 @@ HeadTyped types place (Build entries instruction) = (ty : «Type») → result_t
 HeadTyped types place _ = Unit {0}
 
 typed_first : (types : Name → «Type») (place : ℕ) (request : Request) (more : Script) → HeadTyped types place request → AreTyped types (suc place) more → AreTyped types place (request ∷ more)
-typed_first types place CreateBlock more head rest = rest
-typed_first types place (SwitchToBlock block) more head rest = rest
-typed_first types place (SealBlock block) more head rest = rest
-typed_first types place SealAllBlocks more head rest = rest
-typed_first types place (InsertBlockAfter block after) more head rest = rest
-typed_first types place (SetColdBlock block) more head rest = rest
-typed_first types place EnsureInsertedBlock more head rest = rest
-typed_first types place (AppendBlockParams block params) more head rest = rest
-typed_first types place (AppendFunctionParams block params) more head rest = rest
-typed_first types place (DeclareVar ty) more head rest = rest
-typed_first types place (DefVar variable value) more head rest = rest
-typed_first types place (UseVar variable) more head rest = rest
-typed_first types place (MakeEntry entry) more head rest = rest
-typed_first types place (MakeEdge edge) more head rest = rest
-typed_first types place (MakeJumpTable default entries) more head rest = rest
-typed_first types place (MakeExceptionTable signature normal items) more head rest = rest
-typed_first types place (Annotate inside values) more head rest = rest
-typed_first types place (NeedStackMap need) more head rest = rest
 typed_first types place (Build entries instruction) more head rest = (head, rest)
-typed_first types place (ChangeJumpDestination branch from to) more head rest = rest
-typed_first types place Finalize more head rest = rest
+typed_first types place _ more head rest = rest
 
 head_typed : (types : Name → «Type») (ledger : Ledger) (request : Request) → HaveTypes (ledger_with ledger request) types → HeadTyped types (length ledger.answers) request
-head_typed types ledger CreateBlock have = tt
-head_typed types ledger (SwitchToBlock block) have = tt
-head_typed types ledger (SealBlock block) have = tt
-head_typed types ledger SealAllBlocks have = tt
-head_typed types ledger (InsertBlockAfter block after) have = tt
-head_typed types ledger (SetColdBlock block) have = tt
-head_typed types ledger EnsureInsertedBlock have = tt
-head_typed types ledger (AppendBlockParams block params) have = tt
-head_typed types ledger (AppendFunctionParams block params) have = tt
-head_typed types ledger (DeclareVar ty) have = tt
-head_typed types ledger (DefVar variable value) have = tt
-head_typed types ledger (UseVar variable) have = tt
-head_typed types ledger (MakeEntry entry) have = tt
-head_typed types ledger (MakeEdge edge) have = tt
-head_typed types ledger (MakeJumpTable default entries) have = tt
-head_typed types ledger (MakeExceptionTable signature normal items) have = tt
-head_typed types ledger (Annotate inside values) have = tt
-head_typed types ledger (NeedStackMap need) have = tt
 head_typed types ledger (Build entries instruction) have = λ ty gives.
     have (answer_of (length ledger.answers) 1) ty
     (ap value_answer_type (answers_last ledger.answers (AnInstruction ∷ map AValue (result_types instruction.operation instruction.controlling)) 1)
     ∙ ap (λ (types : List «Type»). value_answer_type (slice_get (AnInstruction ∷ map AValue types) 1)) gives)
-head_typed types ledger (ChangeJumpDestination branch from to) have = tt
-head_typed types ledger Finalize have = tt
+head_typed types ledger _ have = tt
 
 pub all_typed : (types : Name → «Type») (script : Script) (ledger : Ledger) (place : ℕ) → length ledger.answers ≡ place → HaveTypes (fold ledger_with ledger script) types → AreTyped types place script
 all_typed types [] ledger place at have = tt

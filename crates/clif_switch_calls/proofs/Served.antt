@@ -18,7 +18,7 @@ use Rattle.clif_meaning.specs.Acceptance.{table_branch}
 use Rattle.clif_meaning.specs.Instruction.{Compare, Convert, Edge, Instruction}
 use Rattle.clif_meaning.specs.Ledger.{Ledger, edges_named, ledger_with}
 use Rattle.clif_meaning.specs.Name.{Name, answer_of}
-use Rattle.clif_meaning.specs.Request.{Request, CreateBlock, SwitchToBlock, SealBlock, SealAllBlocks, InsertBlockAfter, SetColdBlock, EnsureInsertedBlock, AppendBlockParams, AppendFunctionParams, DeclareVar, DefVar, UseVar, MakeEntry, MakeEdge, MakeJumpTable, MakeExceptionTable, Annotate, NeedStackMap, Build, ChangeJumpDestination, Finalize, ServedBy, Script}
+use Rattle.clif_meaning.specs.Request.{Request, CreateBlock, SwitchToBlock, SealBlock, MakeEdge, MakeJumpTable, Build, ServedBy, Script}
 use Rattle.clif_opcodes.specs.declared.opcodes.ConvertOpcode.TheVariants.{Ireduce}
 use Rattle.clif_expansion.specs.Constants.{computing}
 use Rattle.clif_expansion.specs.Emission.{building}
@@ -44,23 +44,7 @@ idle_once (SwitchToBlock block) ledger is = refl
 idle_once (SealBlock block) ledger is = refl
 idle_once (MakeEdge edge) ledger is = refl
 idle_once (Build [] instruction) ledger is = refl
-idle_once SealAllBlocks ledger is = absurd is
-idle_once (InsertBlockAfter block after) ledger is = absurd is
-idle_once (SetColdBlock block) ledger is = absurd is
-idle_once EnsureInsertedBlock ledger is = absurd is
-idle_once (AppendBlockParams block types) ledger is = absurd is
-idle_once (AppendFunctionParams block types) ledger is = absurd is
-idle_once (DeclareVar ty) ledger is = absurd is
-idle_once (DefVar variable value) ledger is = absurd is
-idle_once (UseVar variable) ledger is = absurd is
-idle_once (MakeEntry entry) ledger is = absurd is
-idle_once (MakeJumpTable default entries) ledger is = absurd is
-idle_once (MakeExceptionTable signature normal items) ledger is = absurd is
-idle_once (Annotate inside values) ledger is = absurd is
-idle_once (NeedStackMap need) ledger is = absurd is
-idle_once (Build (entry ∷ entries) instruction) ledger is = absurd is
-idle_once (ChangeJumpDestination branch from to) ledger is = absurd is
-idle_once Finalize ledger is = absurd is
+idle_once _ ledger is = absurd is
 
 idle_kept : (script : Script) (ledger : Ledger) → Idle script → (fold ledger_with ledger script).jump_tables ≡ ledger.jump_tables
 idle_kept [] ledger idle = refl
