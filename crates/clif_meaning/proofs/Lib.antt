@@ -20,3 +20,5 @@ pub mod BranchRow
 pub mod EachStep
 pub mod OperationTypes
 pub mod Effects
+pub mod Answering
+pub mod LedgerParts

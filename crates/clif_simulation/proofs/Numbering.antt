@@ -6,10 +6,12 @@ use Rattle.std.specs.List.{AllByRecursion}
 use Rattle.std.proofs.lemmas.List.{append-nil, append_assoc}
 use Rattle.std.proofs.lemmas.Option.{slice_get_within}
 use Rattle.clif_types.specs.declared.types.«Type».{«Type»}
-use Rattle.clif_meaning.specs.Ledger.{Answered, AnInstruction, AValue, Ledger, answers_to, ledger_after}
+use Rattle.clif_meaning.specs.Instruction.{Edge}
+use Rattle.clif_meaning.specs.Ledger.{Answered, AnEdge, AnInstruction, AValue, Ledger, answers_to, ledger_after}
 use Rattle.clif_meaning.specs.Name.{Name, answer_of}
 use Rattle.clif_meaning.specs.Program.{Item, Instruct, Use, Assign, result_types}
-use Rattle.clif_meaning.specs.Request.{AnsweredCall, Request, CreateBlock, SwitchToBlock, SealBlock, SealAllBlocks, InsertBlockAfter, SetColdBlock, EnsureInsertedBlock, AppendBlockParams, AppendFunctionParams, DeclareVar, DefVar, UseVar, MakeEntry, MakeEdge, MakeJumpTable, MakeExceptionTable, Annotate, NeedStackMap, Build, ChangeJumpDestination, Finalize, script_of}
+use Rattle.clif_meaning.specs.Request.{AnsweredCall, Request, Build, script_of}
+use Rattle.clif_meaning.proofs.Answering.{AnswersEffect, AnswersNothing, AnswersValues, AnswersEntity, AnswersEdge, AnswersInstruction, IsEntity, answers_effect}
 use Rattle.clif_simulation.specs.Carries.{InstructionsApart, IsBuilt, IsInstruction, instruction_of}
 use Rattle.clif_simulation.specs.Tables.{answered}
 use Rattle.clif_simulation.proofs.LedgerValues.{answers_are, as_many}
@@ -27,40 +29,34 @@ values_alone [] index is = none_some is
 values_alone (ty ∷ types) zero is = no_value ty is
 values_alone (ty ∷ types) (suc index) is = values_alone types index is
 
+same_answer : (answer : Answered) → Some answer ≡ Some AnInstruction → answer ≡ AnInstruction
+same_answer answer same = cc
+
 -- the call makes no instruction
 abbrev pub MakesNoInstruction : Request → Type 0
 MakesNoInstruction (Build entries instruction) = ⊥
 MakesNoInstruction _ = Unit {0}
 
 pub none_made : (ledger : Ledger) (request : Request) → MakesNoInstruction request → (index : ℕ) → slice_get (answers_to ledger request) index ≡ Some AnInstruction → ⊥
-none_made ledger CreateBlock none zero is = cc
-none_made ledger CreateBlock none (suc index) is = none_some is
-none_made ledger (SwitchToBlock block) none index is = none_some is
-none_made ledger (SealBlock block) none index is = none_some is
-none_made ledger SealAllBlocks none index is = none_some is
-none_made ledger (InsertBlockAfter block behind) none index is = none_some is
-none_made ledger (SetColdBlock block) none index is = none_some is
-none_made ledger EnsureInsertedBlock none index is = none_some is
-none_made ledger (AppendBlockParams block types) none index is = values_alone types index is
-none_made ledger (AppendFunctionParams block types) none index is = values_alone types index is
-none_made ledger (DeclareVar ty) none zero is = cc
-none_made ledger (DeclareVar ty) none (suc index) is = none_some is
-none_made ledger (DefVar variable value) none index is = none_some is
-none_made ledger (UseVar variable) none zero is = cc
-none_made ledger (UseVar variable) none (suc index) is = none_some is
-none_made ledger (MakeEntry entry) none zero is = cc
-none_made ledger (MakeEntry entry) none (suc index) is = none_some is
-none_made ledger (MakeEdge edge) none zero is = cc
-none_made ledger (MakeEdge edge) none (suc index) is = none_some is
-none_made ledger (MakeJumpTable default entries) none zero is = cc
-none_made ledger (MakeJumpTable default entries) none (suc index) is = none_some is
-none_made ledger (MakeExceptionTable signature normal items) none zero is = cc
-none_made ledger (MakeExceptionTable signature normal items) none (suc index) is = none_some is
-none_made ledger (Annotate inside values) none index is = none_some is
-none_made ledger (NeedStackMap need) none index is = none_some is
-none_made ledger (Build entries instruction) none index is = absurd none
-none_made ledger (ChangeJumpDestination branch from to) none index is = none_some is
-none_made ledger Finalize none index is = none_some is
+none_made ledger request none index is = by (answers_effect request)
+  where
+    of_answers : (answers : List Answered) → answers_to ledger request ≡ answers → slice_get answers index ≡ Some AnInstruction
+    of_answers answers same = ap (λ (given : List Answered). slice_get given index) (sym same) ∙ is
+
+    one : (answer : Answered) → IsEntity answer → (at : ℕ) → slice_get (answer ∷ []) at ≡ Some AnInstruction → ⊥
+    one answer entity zero there = subst IsEntity (same_answer answer there) entity
+    one answer entity (suc at) there = none_some there
+
+    edge_alone : (edge : Edge Name Name) (at : ℕ) → slice_get (AnEdge edge ∷ []) at ≡ Some AnInstruction → ⊥
+    edge_alone edge zero there = cc
+    edge_alone edge (suc at) there = none_some there
+
+    by : AnswersEffect request → ⊥
+    by (AnswersNothing same) = none_some (of_answers _ (same ledger))
+    by (AnswersValues types same) = values_alone (types ledger) index (of_answers _ (same ledger))
+    by (AnswersEntity answer entity same) = one (answer ledger) (entity ledger) index (of_answers _ (same ledger))
+    by (AnswersEdge edge same) = edge_alone edge index (of_answers _ (ap (answers_to ledger) same))
+    by (AnswersInstruction entries instruction same) = subst MakesNoInstruction same none
 
 -- an instruction is the first of its call's answers
 pub instruction_first : (types : List «Type») (index : ℕ) → slice_get (AnInstruction ∷ map AValue types) index ≡ Some AnInstruction → index ≡ 0
@@ -206,29 +202,10 @@ numbers_end n (call ∷ rest) = numbers_end (next_number call.request n) rest
 -- one more call
 apart_next : (calls : List AnsweredCall) (request : Request) (numbers : List ℕ) (n : ℕ) → HasNumber request numbers n → InstructionsApart calls n
     → InstructionsApart (calls ++ record { request = request; numbers = numbers } ∷ []) (next_number request n)
-apart_next calls CreateBlock numbers n has apart = apart_on calls _ n n (none_made (ledger_after (script_of calls)) CreateBlock tt) (omega arith) apart
-apart_next calls (SwitchToBlock block) numbers n has apart = apart_on calls _ n n (none_made (ledger_after (script_of calls)) (SwitchToBlock block) tt) (omega arith) apart
-apart_next calls (SealBlock block) numbers n has apart = apart_on calls _ n n (none_made (ledger_after (script_of calls)) (SealBlock block) tt) (omega arith) apart
-apart_next calls SealAllBlocks numbers n has apart = apart_on calls _ n n (none_made (ledger_after (script_of calls)) SealAllBlocks tt) (omega arith) apart
-apart_next calls (InsertBlockAfter block behind) numbers n has apart = apart_on calls _ n n (none_made (ledger_after (script_of calls)) (InsertBlockAfter block behind) tt) (omega arith) apart
-apart_next calls (SetColdBlock block) numbers n has apart = apart_on calls _ n n (none_made (ledger_after (script_of calls)) (SetColdBlock block) tt) (omega arith) apart
-apart_next calls EnsureInsertedBlock numbers n has apart = apart_on calls _ n n (none_made (ledger_after (script_of calls)) EnsureInsertedBlock tt) (omega arith) apart
-apart_next calls (AppendBlockParams block types) numbers n has apart = apart_on calls _ n n (none_made (ledger_after (script_of calls)) (AppendBlockParams block types) tt) (omega arith) apart
-apart_next calls (AppendFunctionParams block types) numbers n has apart = apart_on calls _ n n (none_made (ledger_after (script_of calls)) (AppendFunctionParams block types) tt) (omega arith) apart
-apart_next calls (DeclareVar ty) numbers n has apart = apart_on calls _ n n (none_made (ledger_after (script_of calls)) (DeclareVar ty) tt) (omega arith) apart
-apart_next calls (DefVar variable value) numbers n has apart = apart_on calls _ n n (none_made (ledger_after (script_of calls)) (DefVar variable value) tt) (omega arith) apart
-apart_next calls (UseVar variable) numbers n has apart = apart_on calls _ n n (none_made (ledger_after (script_of calls)) (UseVar variable) tt) (omega arith) apart
-apart_next calls (MakeEntry entry) numbers n has apart = apart_on calls _ n n (none_made (ledger_after (script_of calls)) (MakeEntry entry) tt) (omega arith) apart
-apart_next calls (MakeEdge edge) numbers n has apart = apart_on calls _ n n (none_made (ledger_after (script_of calls)) (MakeEdge edge) tt) (omega arith) apart
-apart_next calls (MakeJumpTable default entries) numbers n has apart = apart_on calls _ n n (none_made (ledger_after (script_of calls)) (MakeJumpTable default entries) tt) (omega arith) apart
-apart_next calls (MakeExceptionTable signature normal items) numbers n has apart = apart_on calls _ n n (none_made (ledger_after (script_of calls)) (MakeExceptionTable signature normal items) tt) (omega arith) apart
-apart_next calls (Annotate inside values) numbers n has apart = apart_on calls _ n n (none_made (ledger_after (script_of calls)) (Annotate inside values) tt) (omega arith) apart
-apart_next calls (NeedStackMap need) numbers n has apart = apart_on calls _ n n (none_made (ledger_after (script_of calls)) (NeedStackMap need) tt) (omega arith) apart
 apart_next calls (Build entries instruction) numbers n has apart =
     let call : AnsweredCall = record { request = Build entries instruction; numbers = numbers } in
     apart_made calls call n (suc n) (λ index is. instruction_first (result_types instruction.operation instruction.controlling) index is) (sym (number_of_answer calls call 0 n has)) (omega arith) apart
-apart_next calls (ChangeJumpDestination branch from to) numbers n has apart = apart_on calls _ n n (none_made (ledger_after (script_of calls)) (ChangeJumpDestination branch from to) tt) (omega arith) apart
-apart_next calls Finalize numbers n has apart = apart_on calls _ n n (none_made (ledger_after (script_of calls)) Finalize tt) (omega arith) apart
+apart_next calls request numbers n has apart = apart_on calls _ n n (none_made (ledger_after (script_of calls)) request tt) (omega arith) apart
 
 apart_more : (done rest : List AnsweredCall) (n : ℕ) → InstructionsApart done n → NumbersRise n rest → InstructionsApart (done ++ rest) (numbers_end n rest)
 apart_more done [] n apart rise = subst (λ (calls : List AnsweredCall). InstructionsApart calls n) (sym (append-nil done)) apart

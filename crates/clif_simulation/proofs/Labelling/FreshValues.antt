@@ -6,9 +6,11 @@ use Rattle.std.proofs.lemmas.Option.{slice_get_within}
 use Rattle.clif_types.specs.declared.types.«Type».{«Type»}
 use Rattle.clif_meaning.specs.Name.{Name, answer_of}
 use Rattle.clif_meaning.specs.Instruction.{Instruction}
-use Rattle.clif_meaning.specs.Request.{Annotate, NeedStackMap, AnsweredCall, AppendBlockParams, AppendFunctionParams, Build, ChangeJumpDestination, CreateBlock, DeclareVar, DefVar, EnsureInsertedBlock, Finalize, InsertBlockAfter, MakeEdge, MakeEntry, MakeExceptionTable, MakeJumpTable, Request, Script, SealAllBlocks, SealBlock, SetColdBlock, SwitchToBlock, UseVar, script_of}
+use Rattle.clif_meaning.specs.Request.{AnsweredCall, Build, DefVar, Request, Script, SwitchToBlock, UseVar, script_of}
 use Rattle.clif_meaning.specs.Ledger.{AValue, AnInstruction, Answered, Ledger, answers_to, empty_ledger, ledger_with, value_answer_type}
-use Rattle.clif_meaning.specs.Program.{Item, Instruct, Use, Assign, Program, answers_from, empty_program, extended, result_names, result_types, with_call, with_inserted, with_item_at, with_parameters}
+use Rattle.clif_meaning.specs.Program.{Item, Instruct, Use, Assign, Program, answers_from, empty_program, extended, result_names, result_types, with_call, with_inserted, with_item_at, with_parameters, with_redirected}
+use Rattle.clif_meaning.proofs.Answering.{TakesParameters, takes_parameters}
+use Rattle.clif_meaning.proofs.Effects.{ProgramEffect, program_effect, Leaves, Inserts, Takes, Switches, Assigns, Uses, Builds, Redirects}
 use Rattle.clif_simulation.specs.Carries.{IsValue}
 use Rattle.clif_simulation.specs.Reading.{IsGivenFresh}
 use Rattle.clif_simulation.specs.Tables.{item_at, program_so_far}
@@ -158,35 +160,38 @@ module _ (ledger : Ledger) (program : Program) (was : AreValues ledger.answers p
       (subst (λ (place : ℕ). IsValueIn (ledger.answers ++ answers_to ledger (UseVar variable) ∷ []) (answer_of place 0)) (sym was.place)
       (value_new ledger.answers (answers_to ledger (UseVar variable)) 0 refl))
 
-  redirects : (branch from to : Name) → Becomes (ChangeJumpDestination branch from to)
-  redirects branch from to =
-      made ledger.answers [] program was (extended program (ChangeJumpDestination branch from to))
-      (λ block. all_redirected (GivesValues (ledger.answers ++ [] ∷ [])) (GivesValues (ledger.answers ++ [] ∷ [])) branch from to (λ item gives. gives)
-      (λ place instruction results gives. gives) (program.items block) (old_items ledger.answers [] program was block))
-      (old_parameters ledger.answers [] program was)
+  redirects : (new : List Answered) (branch from to : Name) → AreValues (ledger.answers ++ new ∷ []) (record (with_redirected program branch from to) { place = suc program.place })
+  redirects new branch from to =
+      made ledger.answers new program was (with_redirected program branch from to)
+      (λ block. all_redirected (GivesValues (ledger.answers ++ new ∷ [])) (GivesValues (ledger.answers ++ new ∷ [])) branch from to (λ item gives. gives)
+      (λ place instruction results gives. gives) (program.items block) (old_items ledger.answers new program was block))
+      (old_parameters ledger.answers new program was)
 
   becomes : (request : Request) → Becomes request
-  becomes (AppendBlockParams block types) = takes block types
-  becomes (AppendFunctionParams block types) = takes block types
-  becomes (Build entries instruction) = builds instruction
-  becomes (ChangeJumpDestination branch from to) = redirects branch from to
-  becomes (DefVar variable value) = with_item_here _ program (Assign variable value) refl refl tt
-  becomes (UseVar variable) = uses variable
-  becomes EnsureInsertedBlock = keeps _ (with_inserted program) refl refl
-  becomes (SwitchToBlock block) = keeps _ (record program { current = Some block }) refl refl
-  becomes CreateBlock = keeps _ program refl refl
-  becomes (SealBlock block) = keeps _ program refl refl
-  becomes SealAllBlocks = keeps _ program refl refl
-  becomes (InsertBlockAfter block other) = keeps _ program refl refl
-  becomes (SetColdBlock block) = keeps _ program refl refl
-  becomes (DeclareVar ty) = keeps _ program refl refl
-  becomes (MakeEntry entry) = keeps _ program refl refl
-  becomes (MakeEdge edge) = keeps _ program refl refl
-  becomes (MakeJumpTable default entries) = keeps _ program refl refl
-  becomes (MakeExceptionTable signature normal items) = keeps _ program refl refl
-  becomes (Annotate inside values) = keeps _ program refl refl
-  becomes (NeedStackMap need) = keeps _ program refl refl
-  becomes Finalize = keeps _ program refl refl
+  becomes request = by (program_effect request)
+    where
+      of_program : (other : Program) → extended program request ≡ other → AreValues (ledger.answers ++ answers_to ledger request ∷ []) (record other { place = suc program.place })
+          → Becomes request
+      of_program other is holds = subst (λ (p : Program). AreValues (ledger.answers ++ answers_to ledger request ∷ []) (record p { place = suc program.place })) (sym is) holds
+
+      of_request : (other : Request) → request ≡ other → Becomes other → Becomes request
+      of_request other is holds = subst Becomes (sym is) holds
+
+      taken : TakesParameters request → Becomes request
+      taken made =
+          of_program (with_parameters program made.block (answers_from program.place 0 made.types)) (made.program program)
+          (subst (λ (new : List Answered). AreValues (ledger.answers ++ new ∷ [])
+          (record (with_parameters program made.block (answers_from program.place 0 made.types)) { place = suc program.place })) (sym (made.answers ledger)) (takes made.block made.types))
+
+      by : ProgramEffect request → Becomes request
+      by (Leaves stays is) = of_program program (is program) (keeps _ program refl refl)
+      by (Inserts stays is) = of_program (with_inserted program) (is program) (keeps _ (with_inserted program) refl refl)
+      by (Takes block types stays makes is) = taken (takes_parameters request makes)
+      by (Switches block is) = of_request (SwitchToBlock block) is (keeps _ (record program { current = Some block }) refl refl)
+      by (Assigns variable value is) = of_request (DefVar variable value) is (with_item_here _ program (Assign variable value) refl refl tt)
+      by (Uses variable is) = of_request (UseVar variable) is (uses variable)
+      by (Builds entries instruction is) = of_request (Build entries instruction) is (builds instruction)
+      by (Redirects branch from to stays is) = of_program (with_redirected program branch from to) (is program) (redirects _ branch from to)
 
 are_from : (ledger : Ledger) (program : Program) (script : Script) → AreValues ledger.answers program
     → AreValues (fold ledger_with ledger script).answers (fold with_call program script)

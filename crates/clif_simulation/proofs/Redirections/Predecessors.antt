@@ -1,12 +1,13 @@
 -- The predecessors that a ledger has were answered by instructions: a call that redirects no branch keeps this, and so does one
 -- that redirects an instruction.
-use Rattle.std.proofs.Common.{◌≡◌, ℕ, Bool, true, false, cond, List, [], ◌∷◌, ◌++◌, map, refl, sym, ap, subst, Option, Some, None}
+use Rattle.std.proofs.Common.{◌≡◌, ℕ, Bool, true, false, cond, List, [], ◌∷◌, ◌++◌, map, sym, ap, subst, Option, Some, None}
 use Rattle.std.specs.Prelude.{filter, fold, if◌then◌else◌, not, slice_get}
 use Rattle.std.specs.List.{AllByRecursion, list_any}
 use Rattle.clif_meaning.specs.Instruction.{Edge, Operation}
-use Rattle.clif_meaning.specs.Ledger.{AnInstruction, BlockState, Ledger, answers_to, is_inserted, is_terminator, led_by, ledger_after, ledger_with, left_by, new_block, next_answer, redirected_state, sealed, with_begun, with_begun_at, with_cold_mark, with_filled_at, with_layout, with_parameter_types, with_predecessor, with_state, with_terminator}
+use Rattle.clif_meaning.specs.Ledger.{AnInstruction, BlockState, Ledger, answers_to, is_inserted, is_terminator, led_by, ledger_after, ledger_with, left_by, new_block, next_answer, redirected_state, with_begun, with_begun_at, with_filled_at, with_layout, with_predecessor, with_state, with_terminator}
 use Rattle.clif_meaning.specs.Name.{Name, answer_of, same_name}
-use Rattle.clif_meaning.specs.Request.{AnsweredCall, Request, CreateBlock, SwitchToBlock, SealBlock, SealAllBlocks, InsertBlockAfter, SetColdBlock, EnsureInsertedBlock, AppendBlockParams, AppendFunctionParams, DeclareVar, DefVar, UseVar, MakeEntry, MakeEdge, MakeJumpTable, MakeExceptionTable, Annotate, NeedStackMap, Build, ChangeJumpDestination, Finalize, script_of}
+use Rattle.clif_meaning.specs.Request.{AnsweredCall, Request, CreateBlock, Build, ChangeJumpDestination, script_of}
+use Rattle.clif_meaning.proofs.LedgerParts.{LeadingEffect, LeadsStay, BlockMade, EdgesLead, LeadsMove, leading, leading_effect}
 use Rattle.clif_simulation.specs.Carries.{IsInstruction, LeadsBuilt}
 use Rattle.clif_simulation.proofs.Carrying.{all_append, all_mapped}
 use Rattle.clif_simulation.proofs.LedgerValues.{as_many}
@@ -24,6 +25,18 @@ module _ (P : Name → Type 0) where
 
   abbrev AreLed : Ledger → Type 0
   AreLed ledger = AllByRecursion IsLed ledger.blocks
+
+  -- blocks with these predecessors
+  as_leads : (states : List BlockState) → AllByRecursion IsLed states → AllByRecursion (AllByRecursion P) (leading states)
+  as_leads [] all = tt
+  as_leads (state ∷ states) all = (all.0, as_leads states all.1)
+
+  of_leads : (states : List BlockState) → AllByRecursion (AllByRecursion P) (leading states) → AllByRecursion IsLed states
+  of_leads [] all = tt
+  of_leads (state ∷ states) all = (all.0, of_leads states all.1)
+
+  same_led : (later states : List BlockState) → leading later ≡ leading states → AllByRecursion IsLed states → AllByRecursion IsLed later
+  same_led later states same all = of_leads later (subst (AllByRecursion (AllByRecursion P)) (sym same) (as_leads states all))
 
   each_changed : (change : BlockState → BlockState) → ((state : BlockState) → IsLed state → IsLed (change state)) → (states : List BlockState)
       → AllByRecursion IsLed states → AllByRecursion IsLed (map change states)
@@ -96,7 +109,7 @@ module _ (calls : List AnsweredCall) (call : AnsweredCall) where
   -- one more call
   pub leads_on : RedirectsBuilt calls call.request → LeadsBuilt calls → LeadsBuilt after
   leads_on redirects built =
-      subst (AreLed (IsInstruction after)) (sym (ledger_longer calls call)) (by call.request refl redirects)
+      subst (AreLed (IsInstruction after)) (sym (ledger_longer calls call)) (by (leading_effect call.request))
     where
       old : AreLed (IsInstruction after) ledger
       old =
@@ -106,29 +119,18 @@ module _ (calls : List AnsweredCall) (call : AnsweredCall) where
       new : slice_get (answers_to ledger call.request) 0 ≡ Some AnInstruction → IsInstruction after (next_answer ledger)
       new is = subst (λ (place : ℕ). IsInstruction after (answer_of place 0)) (sym (as_many calls)) (instruction_new calls call 0 is)
 
-      by : (request : Request) → call.request ≡ request → RedirectsBuilt calls request → AreLed (IsInstruction after) (ledger_with ledger request)
-      by CreateBlock is may = all_append (IsLed (IsInstruction after)) ledger.blocks (new_block (next_answer ledger) ∷ []) old (tt, tt)
-      by (SwitchToBlock block) is may = old
-      by (SealBlock block) is may = one_changed (IsInstruction after) ledger block sealed (λ state led. led) old
-      by SealAllBlocks is may = each_changed (IsInstruction after) sealed (λ state led. led) ledger.blocks old
-      by (InsertBlockAfter block behind) is may = old
-      by (SetColdBlock block) is may = one_changed (IsInstruction after) ledger block with_cold_mark (λ state led. led) old
-      by EnsureInsertedBlock is may = begun_led (IsInstruction after) ledger ledger.current old
-      by (AppendBlockParams block types) is may = one_changed (IsInstruction after) ledger block (with_parameter_types types) (λ state led. led) old
-      by (AppendFunctionParams block types) is may = one_changed (IsInstruction after) ledger block (with_parameter_types types) (λ state led. led) old
-      by (DeclareVar ty) is may = old
-      by (DefVar variable value) is may = old
-      by (UseVar variable) is may = begun_led (IsInstruction after) ledger ledger.current old
-      by (MakeEntry entry) is may = old
-      by (MakeEdge edge) is may = old
-      by (MakeJumpTable default entries) is may = old
-      by (MakeExceptionTable signature normal items) is may = old
-      by (Annotate inside values) is may = old
-      by (NeedStackMap need) is may = old
-      by (Build entries instruction) is may =
-          edges_led (IsInstruction after) (next_answer ledger) (new (ap (λ (request : Request). slice_get (answers_to ledger request) 0) is)) instruction.edges
+      of_request : (other : Request) → call.request ≡ other → AreLed (IsInstruction after) (ledger_with ledger other) → AreLed (IsInstruction after) (ledger_with ledger call.request)
+      of_request other is holds = subst (λ (request : Request). AreLed (IsInstruction after) (ledger_with ledger request)) (sym is) holds
+
+      by : LeadingEffect call.request → AreLed (IsInstruction after) (ledger_with ledger call.request)
+      by (LeadsStay same) = same_led (IsInstruction after) (ledger_with ledger call.request).blocks ledger.blocks (same ledger) old
+      by (BlockMade is) = of_request CreateBlock is (all_append (IsLed (IsInstruction after)) ledger.blocks (new_block (next_answer ledger) ∷ []) old (tt, tt))
+      by (EdgesLead entries instruction is) =
+          of_request (Build entries instruction) is
+          (edges_led (IsInstruction after) (next_answer ledger) (new (ap (λ (request : Request). slice_get (answers_to ledger request) 0) is)) instruction.edges
           (with_terminator (with_begun ledger) instruction.operation)
-          (ended_led (IsInstruction after) (with_begun ledger) instruction.operation (begun_led (IsInstruction after) ledger ledger.current old))
-      by (ChangeJumpDestination branch from to) is may =
-          each_changed (IsInstruction after) (redirected_state branch from to) (redirected (IsInstruction after) branch from to (instruction_stays calls call branch may)) ledger.blocks old
-      by Finalize is may = old
+          (ended_led (IsInstruction after) (with_begun ledger) instruction.operation (begun_led (IsInstruction after) ledger ledger.current old)))
+      by (LeadsMove branch from to is) =
+          of_request (ChangeJumpDestination branch from to) is
+          (each_changed (IsInstruction after) (redirected_state branch from to)
+          (redirected (IsInstruction after) branch from to (instruction_stays calls call branch (subst (RedirectsBuilt calls) is redirects))) ledger.blocks old)

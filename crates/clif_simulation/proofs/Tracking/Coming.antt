@@ -8,8 +8,9 @@ use Rattle.std.proofs.lemmas.List.{append-nil}
 use Rattle.clif_types.specs.declared.types.«Type».{«Type»}
 use Rattle.clif_meaning.specs.Name.{Name, answer_of}
 use Rattle.clif_meaning.specs.Instruction.{Instruction}
-use Rattle.clif_meaning.specs.Request.{Annotate, NeedStackMap, AnsweredCall, AppendBlockParams, AppendFunctionParams, Build, ChangeJumpDestination, CreateBlock, DeclareVar, DefVar, EnsureInsertedBlock, Finalize, GivenEntry, InsertBlockAfter, MakeEdge, MakeEntry, MakeExceptionTable, MakeJumpTable, Request, Script, SealAllBlocks, SealBlock, SetColdBlock, SwitchToBlock, UseVar, script_of}
-use Rattle.clif_meaning.specs.Program.{Item, Instruct, Use, Assign, Program, answers_from, empty_program, extended, program_of, result_names, result_types, with_call, with_inserted, with_item_at, with_parameters}
+use Rattle.clif_meaning.specs.Request.{AnsweredCall, Build, DefVar, GivenEntry, Request, Script, SwitchToBlock, UseVar, script_of}
+use Rattle.clif_meaning.specs.Program.{Item, Instruct, Use, Assign, Program, answers_from, empty_program, extended, program_of, result_names, result_types, with_call, with_inserted, with_item_at, with_parameters, with_redirected}
+use Rattle.clif_meaning.proofs.Effects.{MakesNoParameter, ProgramEffect, program_effect, Leaves, Inserts, Takes, Switches, Assigns, Uses, Builds, Redirects}
 use Rattle.clif_simulation.specs.Reading.{IsGivenFresh}
 use Rattle.clif_simulation.specs.Tables.{program_so_far}
 use Rattle.clif_simulation.specs.Tracks.{AssignsTo}
@@ -114,9 +115,9 @@ module _ (script : Script) (request : Request) where
         (parameters_with (AnswersNoUse after) program (answers_from program.place 0 types) taking old_parameters
         (subst (λ (place : ℕ). AllByRecursion (AnswersNoUse after) (answers_from place 0 types)) (sym was.place) (new_no_use none 0 types)))
 
-    redirects : (branch from to : Name) → Becomes (extended program (ChangeJumpDestination branch from to))
+    redirects : (branch from to : Name) → Becomes (with_redirected program branch from to)
     redirects branch from to =
-        made (extended program (ChangeJumpDestination branch from to))
+        made (with_redirected program branch from to)
         (λ block. all_redirected (ComesOf after) (ComesOf after) branch from to (λ item comes. comes)
         (λ place instruction results comes. comes) (program.items block) (old_items block))
         old_parameters
@@ -143,27 +144,25 @@ module _ (script : Script) (program : Program) (was : Comes script program) wher
       with_item_here script (DefVar x name) program was program (Assign x name) refl refl (length script, slice_get-last script (DefVar x name))
 
   next : (request : Request) → Next request
-  next (AppendBlockParams block types) = takes script (AppendBlockParams block types) program was (λ x is. cc) block types
-  next (AppendFunctionParams block types) = takes script (AppendFunctionParams block types) program was (λ x is. cc) block types
-  next (Build entries instruction) = builds entries instruction
-  next (ChangeJumpDestination branch from to) = redirects script (ChangeJumpDestination branch from to) program was branch from to
-  next (DefVar variable value) = assigns variable value
-  next (UseVar variable) = uses variable
-  next EnsureInsertedBlock = keeps script _ program was (with_inserted program) refl refl
-  next (SwitchToBlock block) = keeps script _ program was (record program { current = Some block }) refl refl
-  next CreateBlock = keeps script _ program was program refl refl
-  next (SealBlock block) = keeps script _ program was program refl refl
-  next SealAllBlocks = keeps script _ program was program refl refl
-  next (InsertBlockAfter block other) = keeps script _ program was program refl refl
-  next (SetColdBlock block) = keeps script _ program was program refl refl
-  next (DeclareVar ty) = keeps script _ program was program refl refl
-  next (MakeEntry entry) = keeps script _ program was program refl refl
-  next (MakeEdge edge) = keeps script _ program was program refl refl
-  next (MakeJumpTable default entries) = keeps script _ program was program refl refl
-  next (MakeExceptionTable signature normal items) = keeps script _ program was program refl refl
-  next (Annotate inside values) = keeps script _ program was program refl refl
-  next (NeedStackMap need) = keeps script _ program was program refl refl
-  next Finalize = keeps script _ program was program refl refl
+  next request = by (program_effect request)
+    where
+      of_program : (other : Program) → extended program request ≡ other → Becomes script request program was other → Next request
+      of_program other is holds = subst (Becomes script request program was) (sym is) holds
+
+      of_request : (other : Request) → request ≡ other → Next other → Next request
+      of_request other is holds = subst Next (sym is) holds
+
+      by : ProgramEffect request → Next request
+      by (Leaves stays is) = of_program program (is program) (keeps script request program was program refl refl)
+      by (Inserts stays is) = of_program (with_inserted program) (is program) (keeps script request program was (with_inserted program) refl refl)
+      by (Takes block types stays makes is) =
+          of_program (with_parameters program block (answers_from program.place 0 types)) (is program)
+          (takes script request program was (λ x uses. makes (subst MakesNoParameter (sym uses) tt)) block types)
+      by (Switches block is) = of_request (SwitchToBlock block) is (keeps script (SwitchToBlock block) program was (record program { current = Some block }) refl refl)
+      by (Assigns variable value is) = of_request (DefVar variable value) is (assigns variable value)
+      by (Uses variable is) = of_request (UseVar variable) is (uses variable)
+      by (Builds entries instruction is) = of_request (Build entries instruction) is (builds entries instruction)
+      by (Redirects branch from to stays is) = of_program (with_redirected program branch from to) (is program) (redirects script request program was branch from to)
 
 comes_from : (first : Script) (program : Program) (rest : Script) → Comes first program → Comes (first ++ rest) (fold with_call program rest)
 comes_from first program [] was = subst (λ (script : Script). Comes script program) (sym (append-nil first)) was
