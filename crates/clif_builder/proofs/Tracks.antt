@@ -5,7 +5,7 @@ use Rattle.clif_types.specs.EntitySet.{has}
 use Rattle.clif_nodes.specs.declared.nodes.ValueNode.{ValueNode}
 use Rattle.clif_ir.specs.Body.{Body}
 use Rattle.clif_meaning.specs.Name.{Name}
-use Rattle.clif_meaning.specs.Request.{AnsweredCall, Annotate, AppendBlockParams, AppendFunctionParams, Build, ChangeJumpDestination, CreateBlock, DeclareVar, DefVar, EnsureInsertedBlock, Finalize, InsertBlockAfter, MakeEdge, MakeEntry, MakeExceptionTable, MakeJumpTable, NeedStackMap, Request, SealAllBlocks, SealBlock, SetColdBlock, SwitchToBlock, UseVar, script_of}
+use Rattle.clif_meaning.specs.Request.{AnsweredCall, DefVar, NeedStackMap, Request, script_of}
 use Rattle.clif_meaning.specs.Ledger.{Ledger, is_marked}
 use Rattle.clif_meaning.specs.Tracked.{AsksForNoMaps, TracksNothing}
 use Rattle.clif_simulation.specs.Tables.{number_or_none}
@@ -73,50 +73,14 @@ TracksNothingNew (NeedStackMap need) = ⊥
 TracksNothingNew _ = Unit {0}
 
 pub asks_none : (request : Request) → TracksNothingNew request → AsksForNoMaps request
-asks_none CreateBlock new = tt
-asks_none (SwitchToBlock block) new = tt
-asks_none (SealBlock block) new = tt
-asks_none SealAllBlocks new = tt
-asks_none (InsertBlockAfter block behind) new = tt
-asks_none (SetColdBlock block) new = tt
-asks_none EnsureInsertedBlock new = tt
-asks_none (AppendBlockParams block types) new = tt
-asks_none (AppendFunctionParams block types) new = tt
-asks_none (DeclareVar ty) new = tt
 asks_none (DefVar variable value) new = absurd new
-asks_none (UseVar variable) new = tt
-asks_none (MakeEntry entry) new = tt
-asks_none (MakeEdge edge) new = tt
-asks_none (MakeJumpTable default entries) new = tt
-asks_none (MakeExceptionTable signature normal items) new = tt
-asks_none (Annotate inside values) new = tt
 asks_none (NeedStackMap need) new = absurd new
-asks_none (Build entries instruction) new = tt
-asks_none (ChangeJumpDestination branch from to) new = tt
-asks_none Finalize new = tt
+asks_none _ new = tt
 
 names_none : (request : Request) → TracksNothingNew request → NamesNothing request
-names_none CreateBlock new = tt
-names_none (SwitchToBlock block) new = tt
-names_none (SealBlock block) new = tt
-names_none SealAllBlocks new = tt
-names_none (InsertBlockAfter block behind) new = tt
-names_none (SetColdBlock block) new = tt
-names_none EnsureInsertedBlock new = tt
-names_none (AppendBlockParams block types) new = tt
-names_none (AppendFunctionParams block types) new = tt
-names_none (DeclareVar ty) new = tt
 names_none (DefVar variable value) new = absurd new
-names_none (UseVar variable) new = tt
-names_none (MakeEntry entry) new = tt
-names_none (MakeEdge edge) new = tt
-names_none (MakeJumpTable default entries) new = tt
-names_none (MakeExceptionTable signature normal items) new = tt
-names_none (Annotate inside values) new = tt
 names_none (NeedStackMap need) new = absurd new
-names_none (Build entries instruction) new = tt
-names_none (ChangeJumpDestination branch from to) new = tt
-names_none Finalize new = tt
+names_none _ new = tt
 
 asks_before : (calls : List AnsweredCall) (call : AnsweredCall) → TracksNothing (script_of (calls ++ call ∷ [])) → TracksNothing (script_of calls)
 asks_before [] call asks = tt

@@ -11,8 +11,8 @@ use Rattle.clif_ir.specs.Body.{Body}
 use Rattle.clif_meaning.specs.Instruction.{Edge, Operation}
 use Rattle.clif_meaning.specs.Ledger.{Ledger, empty_ledger, is_inserted, is_terminator, ledger_with, next_answer, with_begun, with_begun_at, with_filled_at, with_layout, with_predecessor, with_terminator}
 use Rattle.clif_meaning.specs.Name.{Name}
-use Rattle.clif_meaning.specs.Request as request
 use Rattle.clif_meaning.specs.Request.{AnsweredCall, Request, Script, script_of}
+use Rattle.clif_meaning.proofs.LedgerParts.{TablesEffect, TablesStay, EntryMade, JumpTableMade, ExceptionTableMade, TablesServe, tables_effect}
 use Rattle.clif_builder.specs.Context.{ContextState}
 use Rattle.clif_builder.specs.Ending.{BecomesSpilled}
 use Rattle.clif_builder.specs.StandsFor.{StandsIn}
@@ -55,29 +55,19 @@ in_entry tables (ASignature signature) = refl
 in_entry tables (AFunction function) = refl
 
 after_request : (ledger : Ledger) (one : Request) → regions_in (ledger_with ledger one) ≡ regions_in ledger
-after_request ledger request.CreateBlock = refl
-after_request ledger (request.SwitchToBlock block) = refl
-after_request ledger (request.SealBlock block) = refl
-after_request ledger request.SealAllBlocks = refl
-after_request ledger (request.InsertBlockAfter block after) = refl
-after_request ledger (request.SetColdBlock block) = refl
-after_request ledger request.EnsureInsertedBlock = in_begun ledger
-after_request ledger (request.AppendBlockParams block types) = refl
-after_request ledger (request.AppendFunctionParams block types) = refl
-after_request ledger (request.DeclareVar ty) = refl
-after_request ledger (request.DefVar variable value) = refl
-after_request ledger (request.UseVar variable) = in_begun ledger
-after_request ledger (request.MakeEntry entry) = in_entry ledger.tables entry
-after_request ledger (request.MakeEdge edge) = refl
-after_request ledger (request.MakeJumpTable default entries) = refl
-after_request ledger (request.MakeExceptionTable signature normal items) = refl
-after_request ledger (request.Annotate inside values) = refl
-after_request ledger (request.NeedStackMap need) = refl
-after_request ledger (request.Build entries instruction) =
-    in_led (next_answer ledger) instruction.edges (with_terminator (with_begun ledger) instruction.operation)
-    ∙ in_terminated (with_begun ledger) instruction.operation ∙ in_begun ledger
-after_request ledger (request.ChangeJumpDestination branch from to) = refl
-after_request ledger request.Finalize = refl
+after_request ledger one = by (tables_effect one)
+  where
+    regions_of : {other : Request} → one ≡ other → regions_in (ledger_with ledger one) ≡ regions_in (ledger_with ledger other)
+    regions_of is = ap (λ (r : Request). regions_in (ledger_with ledger r)) is
+
+    by : TablesEffect one → regions_in (ledger_with ledger one) ≡ regions_in ledger
+    by (TablesStay none same) = ap (λ (tables : TableLists). tables.alias_regions) (same ledger).tables
+    by (EntryMade entry is) = regions_of is ∙ in_entry ledger.tables entry
+    by (JumpTableMade default entries is) = regions_of is
+    by (ExceptionTableMade signature normal items is) = regions_of is
+    by (TablesServe entries instruction is) =
+        regions_of is ∙ in_led (next_answer ledger) instruction.edges (with_terminator (with_begun ledger) instruction.operation)
+        ∙ in_terminated (with_begun ledger) instruction.operation ∙ in_begun ledger
 
 after_script : (script : Script) (ledger : Ledger) → regions_in (fold ledger_with ledger script) ≡ regions_in ledger
 after_script [] ledger = refl

@@ -1,6 +1,6 @@
 -- What names lead to goes on being what they lead to as calls follow; and what calls do to edges and jump tables.
-use Rattle.std.proofs.Common.{◌≡◌, ℕ, zero, suc, List, [], ◌∷◌, ◌++◌, length, refl, ap}
-use Rattle.std.specs.Prelude.{map, slice_get, slice_set, Option, Some, None, option_and_then, Bool, true, false, if◌then◌else◌}
+use Rattle.std.proofs.Common.{◌≡◌, ℕ, zero, suc, List, [], ◌∷◌, ◌++◌, length, refl, sym, ◌∙◌, ap, subst}
+use Rattle.std.specs.Prelude.{map, slice_get, slice_set, Option, Some, None, option_and_then}
 use Rattle.clif_types.specs.declared.types.«Type».{«Type»}
 use Rattle.clif_types.specs.Signature.{SignatureShape}
 use Rattle.clif_instructions.specs.declared.block_call.BlockArg.TheVariants as arg
@@ -9,8 +9,11 @@ use Rattle.clif_instructions.specs.ExceptionTables.{ExceptionShape, contexts_of}
 use Rattle.clif_tables.specs.Lists.{unserved}
 use Rattle.clif_meaning.specs.Instruction.{Edge, Known}
 use Rattle.clif_meaning.specs.Name.{Name}
-use Rattle.clif_meaning.specs.Request.{AnsweredCall, Annotate, NeedStackMap, AppendBlockParams, AppendFunctionParams, Build, GivenEntry, ServedBy, TriedBy, Imported, ChangeJumpDestination, CreateBlock, DeclareVar, DefVar, EnsureInsertedBlock, Finalize, InsertBlockAfter, MakeEdge, MakeEntry, MakeJumpTable, MakeExceptionTable, Request, SealAllBlocks, SealBlock, SetColdBlock, SwitchToBlock, UseVar}
-use Rattle.clif_meaning.specs.Ledger.{AnEdge, AValue, ExceptionTable, Ledger, answers_to, is_inserted, ledger_with, with_begun_at, with_served, with_tried}
+use Rattle.clif_meaning.specs.Request.{AnsweredCall, Build, GivenEntry, ServedBy, TriedBy, Imported, MakeEdge, MakeJumpTable, MakeExceptionTable, Request}
+use Rattle.clif_meaning.specs.Program.{result_types}
+use Rattle.clif_meaning.specs.Ledger.{Answered, AnEdge, AnInstruction, AValue, ExceptionTable, Ledger, answers_to, ledger_with, with_served, with_tried}
+use Rattle.clif_meaning.proofs.Answering.{AnswersEffect, AnswersNothing, AnswersValues, AnswersEntity, AnswersEdge, AnswersInstruction, IsEntity, answers_effect}
+use Rattle.clif_meaning.proofs.LedgerParts.{TablesEffect, TablesStay, EntryMade, JumpTableMade, ExceptionTableMade, TablesServe, tables_effect}
 use Rattle.clif_builder.specs.declared.builder.FunctionBuilder.{FunctionBuilder}
 use Rattle.clif_builder.specs.Ledger.{NamesEdges, NamesExceptions}
 use Rattle.clif_builder.specs.LedgerLaws.{LedgerIsReadByNumber}
@@ -47,95 +50,59 @@ LeavesTables (MakeExceptionTable signature normal items) = ⊥
 LeavesTables (Build entries instruction) = GivesNoTable entries
 LeavesTables _ = Unit {0}
 
-begun-tables : (ledger : Ledger) (o : Option Name) → (with_begun_at ledger o).jump_tables ≡ ledger.jump_tables
-begun-tables ledger None = refl
-begun-tables ledger (Some block) = by (is_inserted ledger block)
-  where
-    by : (inserted : Bool) → (if inserted then ledger else record ledger { layout = ledger.layout ++ block ∷ [] }).jump_tables ≡ ledger.jump_tables
-    by true = refl
-    by false = refl
-
 pub tables-kept : (ledger : Ledger) (request : Request) → LeavesTables request → (ledger_with ledger request).jump_tables ≡ ledger.jump_tables
-tables-kept ledger CreateBlock leaves = refl
-tables-kept ledger (SwitchToBlock block) leaves = refl
-tables-kept ledger (SealBlock block) leaves = refl
-tables-kept ledger SealAllBlocks leaves = refl
-tables-kept ledger (InsertBlockAfter block after) leaves = refl
-tables-kept ledger (SetColdBlock block) leaves = refl
-tables-kept ledger EnsureInsertedBlock leaves = begun-tables ledger ledger.current
-tables-kept ledger (AppendBlockParams block types) leaves = refl
-tables-kept ledger (AppendFunctionParams block types) leaves = refl
-tables-kept ledger (DeclareVar ty) leaves = refl
-tables-kept ledger (DefVar variable value) leaves = refl
-tables-kept ledger (UseVar variable) leaves = begun-tables ledger ledger.current
-tables-kept ledger (MakeEntry entry) leaves = refl
-tables-kept ledger (MakeEdge edge) leaves = absurd leaves
-tables-kept ledger (MakeJumpTable default entries) leaves = absurd leaves
-tables-kept ledger (MakeExceptionTable signature normal items) leaves = absurd leaves
-tables-kept ledger (Annotate inside values) leaves = refl
-tables-kept ledger (NeedStackMap need) leaves = refl
-tables-kept ledger (Build entries instruction) leaves = served-none ledger.jump_tables entries leaves
-tables-kept ledger (ChangeJumpDestination branch from to) leaves = refl
-tables-kept ledger Finalize leaves = refl
-
-begun-exceptions : (ledger : Ledger) (o : Option Name) → (with_begun_at ledger o).exception_tables ≡ ledger.exception_tables
-begun-exceptions ledger None = refl
-begun-exceptions ledger (Some block) = by (is_inserted ledger block)
+tables-kept ledger request leaves = by (tables_effect request)
   where
-    by : (inserted : Bool) → (if inserted then ledger else record ledger { layout = ledger.layout ++ block ∷ [] }).exception_tables ≡ ledger.exception_tables
-    by true = refl
-    by false = refl
+    tables-of : {other : Request} → request ≡ other → (ledger_with ledger request).jump_tables ≡ (ledger_with ledger other).jump_tables
+    tables-of is = ap (λ (r : Request). (ledger_with ledger r).jump_tables) is
+
+    by : TablesEffect request → (ledger_with ledger request).jump_tables ≡ ledger.jump_tables
+    by (TablesStay none same) = (same ledger).jump_tables
+    by (EntryMade entry is) = tables-of is
+    by (JumpTableMade default entries is) = absurd (subst LeavesTables is leaves)
+    by (ExceptionTableMade signature normal items is) = absurd (subst LeavesTables is leaves)
+    by (TablesServe entries instruction is) = tables-of is ∙ served-none ledger.jump_tables entries (subst LeavesTables is leaves)
 
 pub exceptions-kept : (ledger : Ledger) (request : Request) → LeavesTables request → (ledger_with ledger request).exception_tables ≡ ledger.exception_tables
-exceptions-kept ledger CreateBlock leaves = refl
-exceptions-kept ledger (SwitchToBlock block) leaves = refl
-exceptions-kept ledger (SealBlock block) leaves = refl
-exceptions-kept ledger SealAllBlocks leaves = refl
-exceptions-kept ledger (InsertBlockAfter block after) leaves = refl
-exceptions-kept ledger (SetColdBlock block) leaves = refl
-exceptions-kept ledger EnsureInsertedBlock leaves = begun-exceptions ledger ledger.current
-exceptions-kept ledger (AppendBlockParams block types) leaves = refl
-exceptions-kept ledger (AppendFunctionParams block types) leaves = refl
-exceptions-kept ledger (DeclareVar ty) leaves = refl
-exceptions-kept ledger (DefVar variable value) leaves = refl
-exceptions-kept ledger (UseVar variable) leaves = begun-exceptions ledger ledger.current
-exceptions-kept ledger (MakeEntry entry) leaves = refl
-exceptions-kept ledger (MakeEdge edge) leaves = absurd leaves
-exceptions-kept ledger (MakeJumpTable default entries) leaves = absurd leaves
-exceptions-kept ledger (MakeExceptionTable signature normal items) leaves = absurd leaves
-exceptions-kept ledger (Annotate inside values) leaves = refl
-exceptions-kept ledger (NeedStackMap need) leaves = refl
-exceptions-kept ledger (Build entries instruction) leaves = tried-none ledger.exception_tables entries leaves
-exceptions-kept ledger (ChangeJumpDestination branch from to) leaves = refl
-exceptions-kept ledger Finalize leaves = refl
+exceptions-kept ledger request leaves = by (tables_effect request)
+  where
+    tables-of : {other : Request} → request ≡ other → (ledger_with ledger request).exception_tables ≡ (ledger_with ledger other).exception_tables
+    tables-of is = ap (λ (r : Request). (ledger_with ledger r).exception_tables) is
+
+    by : TablesEffect request → (ledger_with ledger request).exception_tables ≡ ledger.exception_tables
+    by (TablesStay none same) = (same ledger).exception_tables
+    by (EntryMade entry is) = tables-of is
+    by (JumpTableMade default entries is) = absurd (subst LeavesTables is leaves)
+    by (ExceptionTableMade signature normal items is) = absurd (subst LeavesTables is leaves)
+    by (TablesServe entries instruction is) = tables-of is ∙ tried-none ledger.exception_tables entries (subst LeavesTables is leaves)
 
 values-no-edge : (types : List «Type») (edge : Edge Name Name) → map AValue types ≡ AnEdge edge ∷ [] → ⊥
 values-no-edge [] edge is = cc
 values-no-edge (ty ∷ types) edge is = cc
 
+entity-no-edge : (answer : Answered) (edge : Edge Name Name) → IsEntity answer → answer ∷ [] ≡ AnEdge edge ∷ [] → ⊥
+entity-no-edge answer edge entity is = subst IsEntity (first answer (AnEdge edge) is) entity
+  where
+    first : (one other : Answered) → one ∷ [] ≡ other ∷ [] → one ≡ other
+    first one other same = cc
+
+instruction-no-edge : (types : List «Type») (edge : Edge Name Name) → AnInstruction ∷ map AValue types ≡ AnEdge edge ∷ [] → ⊥
+instruction-no-edge types edge is = cc
+
 -- such a call answers no edge
 pub no-edge : (ledger : Ledger) (request : Request) → LeavesTables request → (edge : Edge Name Name) → answers_to ledger request ≡ AnEdge edge ∷ [] → ⊥
-no-edge ledger CreateBlock leaves edge is = cc
-no-edge ledger (SwitchToBlock block) leaves edge is = cc
-no-edge ledger (SealBlock block) leaves edge is = cc
-no-edge ledger SealAllBlocks leaves edge is = cc
-no-edge ledger (InsertBlockAfter block after) leaves edge is = cc
-no-edge ledger (SetColdBlock block) leaves edge is = cc
-no-edge ledger EnsureInsertedBlock leaves edge is = cc
-no-edge ledger (AppendBlockParams block types) leaves edge is = values-no-edge types edge is
-no-edge ledger (AppendFunctionParams block types) leaves edge is = values-no-edge types edge is
-no-edge ledger (DeclareVar ty) leaves edge is = cc
-no-edge ledger (DefVar variable value) leaves edge is = cc
-no-edge ledger (UseVar variable) leaves edge is = cc
-no-edge ledger (MakeEntry entry) leaves edge is = cc
-no-edge ledger (MakeEdge other) leaves edge is = leaves
-no-edge ledger (MakeJumpTable default entries) leaves edge is = leaves
-no-edge ledger (MakeExceptionTable signature normal items) leaves edge is = leaves
-no-edge ledger (Annotate inside values) leaves edge is = cc
-no-edge ledger (NeedStackMap need) leaves edge is = cc
-no-edge ledger (Build entries instruction) leaves edge is = cc
-no-edge ledger (ChangeJumpDestination branch from to) leaves edge is = cc
-no-edge ledger Finalize leaves edge is = cc
+no-edge ledger request leaves edge is = by (answers_effect request)
+  where
+    of-answers : (answers : List Answered) → answers_to ledger request ≡ answers → answers ≡ AnEdge edge ∷ []
+    of-answers answers same = sym same ∙ is
+
+    by : AnswersEffect request → ⊥
+    by (AnswersNothing same) = values-no-edge [] edge (of-answers _ (same ledger))
+    by (AnswersValues types same) = values-no-edge (types ledger) edge (of-answers _ (same ledger))
+    by (AnswersEntity answer entity same) = entity-no-edge (answer ledger) edge (entity ledger) (of-answers _ (same ledger))
+    by (AnswersEdge other same) = subst LeavesTables same leaves
+    by (AnswersInstruction entries instruction same) =
+        instruction-no-edge (result_types instruction.operation instruction.controlling) edge (of-answers _ (ap (answers_to ledger) same))
 
 -- what tables hold goes on agreeing, where it does so in each
 agree-on : {A B : Type 0} (Agree More : A → B → Type 0) → ((held : A) (made : B) → Agree held made → More held made)

@@ -29,8 +29,8 @@ use Rattle.clif_meaning.specs.Acceptance.{can_lead}
 use Rattle.clif_meaning.specs.Instruction as meaning
 use Rattle.clif_meaning.specs.Ledger.{Answered, ExceptionTable, Ledger, has_value, ledger_after, ledger_with, or_invalid, type_of, with_tried}
 use Rattle.clif_meaning.specs.Name as named
-use Rattle.clif_meaning.specs.Request.{AnsweredCall, GivenEntry, Imported, Request, CreateBlock, SwitchToBlock, SealBlock, MakeEdge, MakeJumpTable, MakeExceptionTable, Build, ServedBy, Script, TriedBy, script_of}
-use Rattle.clif_meaning.specs.Request as asked
+use Rattle.clif_meaning.specs.Request.{AnsweredCall, GivenEntry, Imported, Request, ServedBy, Script, TriedBy, script_of}
+use Rattle.clif_meaning.proofs.LedgerParts.{TablesEffect, TablesStay, EntryMade, JumpTableMade, ExceptionTableMade, TablesServe, tables_effect}
 use Rattle.clif_builder.specs.declared.builder.FunctionBuilder.{FunctionBuilder}
 use Rattle.clif_builder.specs.Ledger.{NamesBlock, NamesEdges, NamesExceptions, block_name, ledger_of}
 use Rattle.clif_builder.specs.StandsFor.{StandsFor}
@@ -426,27 +426,18 @@ served-alone tables first (Imported entry ∷ entries) all = absurd all.0
 
 exceptions-left : (ledger : Ledger) (base tables : ℕ) (targets : List named.Name) (request : Request) → IsDecidingCall base tables targets request
     → (ledger_with ledger request).exception_tables ≡ ledger.exception_tables
-exceptions-left ledger base tables targets CreateBlock is = refl
-exceptions-left ledger base tables targets (SwitchToBlock block) is = refl
-exceptions-left ledger base tables targets (SealBlock block) is = refl
-exceptions-left ledger base tables targets (MakeEdge edge) is = refl
-exceptions-left ledger base tables targets (MakeJumpTable default entries) is = refl
-exceptions-left ledger base tables targets (Build entries instruction) is = served-alone ledger.exception_tables tables entries is.1
-exceptions-left ledger base tables targets asked.SealAllBlocks is = absurd is
-exceptions-left ledger base tables targets (asked.InsertBlockAfter block after) is = absurd is
-exceptions-left ledger base tables targets (asked.SetColdBlock block) is = absurd is
-exceptions-left ledger base tables targets asked.EnsureInsertedBlock is = absurd is
-exceptions-left ledger base tables targets (asked.AppendBlockParams block types) is = absurd is
-exceptions-left ledger base tables targets (asked.AppendFunctionParams block types) is = absurd is
-exceptions-left ledger base tables targets (asked.DeclareVar ty) is = absurd is
-exceptions-left ledger base tables targets (asked.DefVar variable value) is = absurd is
-exceptions-left ledger base tables targets (asked.UseVar variable) is = absurd is
-exceptions-left ledger base tables targets (asked.MakeEntry entry) is = absurd is
-exceptions-left ledger base tables targets (MakeExceptionTable signature normal items) is = absurd is
-exceptions-left ledger base tables targets (asked.Annotate inside values) is = absurd is
-exceptions-left ledger base tables targets (asked.NeedStackMap need) is = absurd is
-exceptions-left ledger base tables targets (asked.ChangeJumpDestination branch from to) is = absurd is
-exceptions-left ledger base tables targets asked.Finalize is = absurd is
+exceptions-left ledger base tables targets request is = by (tables_effect request)
+  where
+    tables-of : {other : Request} → request ≡ other → (ledger_with ledger request).exception_tables ≡ (ledger_with ledger other).exception_tables
+    tables-of same = ap (λ (r : Request). (ledger_with ledger r).exception_tables) same
+
+    by : TablesEffect request → (ledger_with ledger request).exception_tables ≡ ledger.exception_tables
+    by (TablesStay none stay) = (stay ledger).exception_tables
+    by (EntryMade entry same) = tables-of same
+    by (JumpTableMade default entries same) = tables-of same
+    by (ExceptionTableMade signature normal items same) = absurd (subst (IsDecidingCall base tables targets) same is)
+    by (TablesServe entries instruction same) =
+        tables-of same ∙ served-alone ledger.exception_tables tables entries (subst (IsDecidingCall base tables targets) same is).1
 
 all-left : (more : Script) (ledger : Ledger) (base tables : ℕ) (targets : List named.Name) → AllByRecursion (IsDecidingCall base tables targets) more
     → (fold ledger_with ledger more).exception_tables ≡ ledger.exception_tables

@@ -1,5 +1,5 @@
 -- How many jump tables calls make.
-use Rattle.std.proofs.Common.{◌≡◌, ◌+◌, ℕ, zero, suc, Bool, true, false, List, [], ◌∷◌, ◌++◌, length, map, refl, ◌∙◌, ap, arith, Option, Some, None}
+use Rattle.std.proofs.Common.{◌≡◌, ◌+◌, ℕ, zero, suc, Bool, true, false, List, [], ◌∷◌, ◌++◌, length, map, refl, sym, ◌∙◌, ap, subst, arith, Option, None}
 use Rattle.std.specs.Prelude.{◌==◌, ◌-◌, ◌^◌, fold, if◌then◌else◌, nat_lt, slice_set}
 use Rattle.std.proofs.lemmas.List.{length-set}
 use Rattle.clif_ranges.specs.declared.search.Next.{Next}
@@ -13,9 +13,10 @@ use Rattle.clif_types.specs.declared.condcodes.IntCC.TheVariants.{Equal, Unsigne
 use Rattle.clif_types.specs.Types.{bits_of}
 use Rattle.clif_meaning.specs.Acceptance.{table_branch}
 use Rattle.clif_meaning.specs.Instruction.{Compare, Convert, Edge, Instruction}
-use Rattle.clif_meaning.specs.Ledger.{Ledger, is_inserted, ledger_with, with_begun_at, with_served}
+use Rattle.clif_meaning.specs.Ledger.{Ledger, ledger_with, with_served}
 use Rattle.clif_meaning.specs.Name.{Name, answer_of}
-use Rattle.clif_meaning.specs.Request.{AnsweredCall, Request, CreateBlock, SwitchToBlock, SealBlock, SealAllBlocks, InsertBlockAfter, SetColdBlock, EnsureInsertedBlock, AppendBlockParams, AppendFunctionParams, DeclareVar, DefVar, UseVar, MakeEntry, MakeEdge, MakeJumpTable, MakeExceptionTable, Annotate, NeedStackMap, Build, ChangeJumpDestination, Finalize, GivenEntry, ServedBy, TriedBy, Imported, Script, script_of}
+use Rattle.clif_meaning.specs.Request.{AnsweredCall, Request, CreateBlock, SwitchToBlock, SealBlock, MakeEdge, MakeJumpTable, Build, GivenEntry, ServedBy, TriedBy, Imported, Script, script_of}
+use Rattle.clif_meaning.proofs.LedgerParts.{MakesNoJumpTable, TablesEffect, TablesStay, EntryMade, JumpTableMade, ExceptionTableMade, TablesServe, tables_effect}
 use Rattle.clif_builder.specs.declared.builder.FunctionBuilder.{FunctionBuilder}
 use Rattle.clif_builder.specs.Ledger.{ledger_of}
 use Rattle.clif_builder.proofs.Lasting.{ledger-behind}
@@ -51,14 +52,6 @@ set_kept tables (ServedBy table ∷ entries) = set_kept (slice_set tables table 
 set_kept tables (TriedBy table ∷ entries) = set_kept tables entries
 set_kept tables (Imported entry ∷ entries) = set_kept tables entries
 
-begun_tables : (ledger : Ledger) (o : Option Name) → (with_begun_at ledger o).jump_tables ≡ ledger.jump_tables
-begun_tables ledger None = refl
-begun_tables ledger (Some block) = by (is_inserted ledger block)
-  where
-    by : (inserted : Bool) → (if inserted then ledger else record ledger { layout = ledger.layout ++ block ∷ [] }).jump_tables ≡ ledger.jump_tables
-    by true = refl
-    by false = refl
-
 one_longer : {X : Type 0} (xs : List X) (x : X) → length (xs ++ x ∷ []) ≡ suc (length xs)
 one_longer [] x = refl
 one_longer (y ∷ xs) x = ap suc (one_longer xs x)
@@ -69,28 +62,24 @@ none_more n = omega arith
 one_more : (n : ℕ) → suc n ≡ 1 + n
 one_more n = omega arith
 
+made_none : (request : Request) → MakesNoJumpTable request → made_by request ≡ 0
+made_none (MakeJumpTable default entries) none = absurd none
+made_none _ none = refl
+
 counted : (ledger : Ledger) (request : Request) → length (ledger_with ledger request).jump_tables ≡ made_by request + length ledger.jump_tables
-counted ledger CreateBlock = none_more (length ledger.jump_tables)
-counted ledger (SwitchToBlock block) = none_more (length ledger.jump_tables)
-counted ledger (SealBlock block) = none_more (length ledger.jump_tables)
-counted ledger SealAllBlocks = none_more (length ledger.jump_tables)
-counted ledger (InsertBlockAfter block after) = none_more (length ledger.jump_tables)
-counted ledger (SetColdBlock block) = none_more (length ledger.jump_tables)
-counted ledger EnsureInsertedBlock = ap length (begun_tables ledger ledger.current) ∙ none_more (length ledger.jump_tables)
-counted ledger (AppendBlockParams block types) = none_more (length ledger.jump_tables)
-counted ledger (AppendFunctionParams block types) = none_more (length ledger.jump_tables)
-counted ledger (DeclareVar ty) = none_more (length ledger.jump_tables)
-counted ledger (DefVar variable value) = none_more (length ledger.jump_tables)
-counted ledger (UseVar variable) = ap length (begun_tables ledger ledger.current) ∙ none_more (length ledger.jump_tables)
-counted ledger (MakeEntry entry) = none_more (length ledger.jump_tables)
-counted ledger (MakeEdge edge) = none_more (length ledger.jump_tables)
-counted ledger (MakeJumpTable default entries) = one_longer ledger.jump_tables _ ∙ one_more (length ledger.jump_tables)
-counted ledger (MakeExceptionTable signature normal items) = none_more (length ledger.jump_tables)
-counted ledger (Annotate inside values) = none_more (length ledger.jump_tables)
-counted ledger (NeedStackMap need) = none_more (length ledger.jump_tables)
-counted ledger (Build entries instruction) = set_kept ledger.jump_tables entries ∙ none_more (length ledger.jump_tables)
-counted ledger (ChangeJumpDestination branch from to) = none_more (length ledger.jump_tables)
-counted ledger Finalize = none_more (length ledger.jump_tables)
+counted ledger request = by (tables_effect request)
+  where
+    of_request : (other : Request) → request ≡ other → length (ledger_with ledger other).jump_tables ≡ made_by other + length ledger.jump_tables
+        → length (ledger_with ledger request).jump_tables ≡ made_by request + length ledger.jump_tables
+    of_request other is holds = subst (λ (r : Request). length (ledger_with ledger r).jump_tables ≡ made_by r + length ledger.jump_tables) (sym is) holds
+
+    by : TablesEffect request → length (ledger_with ledger request).jump_tables ≡ made_by request + length ledger.jump_tables
+    by (TablesStay none same) =
+        ap length (same ledger).jump_tables ∙ none_more (length ledger.jump_tables) ∙ ap (λ (n : ℕ). n + length ledger.jump_tables) (sym (made_none request none))
+    by (EntryMade entry is) = of_request _ is (none_more (length ledger.jump_tables))
+    by (JumpTableMade default entries is) = of_request _ is (one_longer ledger.jump_tables _ ∙ one_more (length ledger.jump_tables))
+    by (ExceptionTableMade signature normal items is) = of_request _ is (none_more (length ledger.jump_tables))
+    by (TablesServe entries instruction is) = of_request _ is (set_kept ledger.jump_tables entries ∙ none_more (length ledger.jump_tables))
 
 counted_all : (ledger : Ledger) (script : Script) → length (fold ledger_with ledger script).jump_tables ≡ made_in script + length ledger.jump_tables
 counted_all ledger [] = none_more (length ledger.jump_tables)
