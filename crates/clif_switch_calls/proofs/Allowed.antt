@@ -47,10 +47,12 @@ still switch current other stays is = is ∙ ap (λ (o : Option Name). behind o 
 program_current : (request : Request) (program : Program) → (with_call program request).current ≡ behind (switch_of request) program.current
 program_current request program = by (program_effect request)
   where
-    of_request : (other : Request) → request ≡ other → (extended program other).current ≡ behind (switch_of other) program.current → (extended program request).current ≡ behind (switch_of request) program.current
+    of_request : (other : Request) → request ≡ other → (extended program other).current ≡ behind (switch_of other) program.current
+        → (extended program request).current ≡ behind (switch_of request) program.current
     of_request other is holds = subst (λ (r : Request). (extended program r).current ≡ behind (switch_of r) program.current) (sym is) holds
 
-    of_program : (other : Program) → switch_of request ≡ None → extended program request ≡ other → other.current ≡ program.current → (extended program request).current ≡ behind (switch_of request) program.current
+    of_program : (other : Program) → switch_of request ≡ None → extended program request ≡ other → other.current ≡ program.current
+        → (extended program request).current ≡ behind (switch_of request) program.current
     of_program other stays is same = still (switch_of request) program.current (extended program request).current stays (ap (λ (p : Program). p.current) is ∙ same)
 
     by : ProgramEffect request → (extended program request).current ≡ behind (switch_of request) program.current
@@ -66,10 +68,12 @@ program_current request program = by (program_effect request)
 ledger_current : (request : Request) (ledger : Ledger) → (ledger_with ledger request).current ≡ behind (switch_of request) ledger.current
 ledger_current request ledger = by (ledger_effect request)
   where
-    of_request : (other : Request) → request ≡ other → (changed_by ledger other).current ≡ behind (switch_of other) ledger.current → (changed_by ledger request).current ≡ behind (switch_of request) ledger.current
+    of_request : (other : Request) → request ≡ other → (changed_by ledger other).current ≡ behind (switch_of other) ledger.current
+        → (changed_by ledger request).current ≡ behind (switch_of request) ledger.current
     of_request other is holds = subst (λ (r : Request). (changed_by ledger r).current ≡ behind (switch_of r) ledger.current) (sym is) holds
 
-    of_ledger : (other : Ledger) → switch_of request ≡ None → changed_by ledger request ≡ other → other.current ≡ ledger.current → (changed_by ledger request).current ≡ behind (switch_of request) ledger.current
+    of_ledger : (other : Ledger) → switch_of request ≡ None → changed_by ledger request ≡ other → other.current ≡ ledger.current
+        → (changed_by ledger request).current ≡ behind (switch_of request) ledger.current
     of_ledger other stays is same = still (switch_of request) ledger.current (changed_by ledger request).current stays (ap (λ (l : Ledger). l.current) is ∙ same)
 
     by : LedgerEffect request → (changed_by ledger request).current ≡ behind (switch_of request) ledger.current
