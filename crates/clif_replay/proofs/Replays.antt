@@ -26,6 +26,7 @@ use Rattle.clif_builder.proofs.Regions.{alike_of}
 use Rattle.clif_builder.specs.Ending.{AsFound, BecomesFinished, BecomesSpilled, EndsByLedger}
 use Rattle.clif_builder.specs.Ledger.{ledger_of as plain_ledger_of}
 use Rattle.clif_builder.specs.StandsFor.{LeavesNoParameter, StandsFor, StandsIn}
+use Rattle.clif_builder.specs.StandsForCalls.{FinishesCalls}
 use Rattle.clif_calls.specs.declared.call.Call.{Call}
 use Rattle.clif_resolution.specs.declared.answers.CallError.{CallError}
 use Rattle.clif_resolution.specs.declared.answers.CallError.TheVariants as error
@@ -36,10 +37,9 @@ use Rattle.clif_replay.specs.Replay.{ReplayMakes, ReplayTells}
 use Rattle.clif_replay.specs.Requests.{attempts_of, calls_of, is_refusable}
 use Rattle.clif_replay.specs.Replayed.{Found, IsReplayed, IsStoppedByTable, IsStoppedInSpilling, MayBeRefused, TellsVerdict, recorded_in}
 use Rattle.clif_expansion.specs.CallsVerdict.{verdict_on_call_attempts}
-use Rattle.clif_expansion.proofs.calls.Headline.{keep_premises}
 use Rattle.clif_replay.proofs.Asking.{recorded_as_asked}
 use Rattle.clif_replay.proofs.FirstRegions.{none_built, none_spilled}
-use Rattle.clif_replay.proofs.Verdicts.{all-of-width, all-replayed, full-spilling, means-replayed, verdict-accepted, verdict-refused}
+use Rattle.clif_replay.proofs.Verdicts.{all-replayed, full-spilling, verdict-accepted, verdict-refused}
 
 -- it keeps its name
 pub spilled-name : (f g : Body) (recorded : List ℕ) (pointer : «Type») → BecomesSpilled f recorded pointer g → g.name ≡ f.name
@@ -83,24 +83,20 @@ found-by calls declared config made b stands replayed = record {
 pub finished-replay : {C : Type 0} {R : Type 0} (callback : Option C) (asks_of : C → Asks) (calls : List Call) (declared : SignatureShape) (config : TargetFrontendConfig) (made : List AnsweredCall) (b : FunctionBuilder R) (f : Body) (r : Result (Unit {0}) FinalizeError)
     → (named : UserFuncName) → f.name ≡ named → BecomesFinished b.func.now (recorded_of b.ctx.now.parts.ssa.tracking) (pointer_type_of config.pointer_width) callback asks_of f
     → StandsFor declared made b → IsReplayed config declared calls (length calls) made
-    → MeansTheSame (script_of made) declared config.pointer_width (view_of f)
-    → (CallersEdgesMatch (script_of made) → EdgesMatch (view_of f))
+    → FinishesCalls (calls_of config declared calls) declared config.pointer_width b.func.now f
     → AsFound declared config.pointer_width made b
     → EndsByLedger made (refusal_of (plain_ledger_of made) Finalize) b.func.now (recorded_of b.ctx.now.parts.ssa.tracking) r → r ≡ Ok tt
     → ReplayMakes calls named declared config callback asks_of f
-finished-replay callback asks_of calls declared config made b f r named name become stands replayed meaning matches found ends is =
-    let all = all-replayed config declared calls made replayed in
+finished-replay callback asks_of calls declared config made b f r named name become stands replayed finishes found ends is =
     let accepted = verdict-accepted config declared calls made b.func.now (recorded_of b.ctx.now.parts.ssa.tracking) r replayed ends is in
     record {
-      same_meaning = means-replayed config declared calls made f replayed meaning;
+      same_meaning = finishes.same_meaning;
       built = record {
         between = become.between;
         built = record {
           found = found-by calls declared config made b stands replayed;
           parameters = found.parameters;
-          well_placed = λ premises.
-              found.well_placed (keep_premises.placement (pointer_bits config.pointer_width) all.reading (script_of made) (calls_of config declared calls) all.joined
-              (all.performed (pointer_bits config.pointer_width) (all-of-width config declared empty_ledger calls)) declared premises);
+          well_placed = finishes.well_placed;
           contexts = accepted.1;
           spilled = become.spilled;
         };
@@ -109,7 +105,7 @@ finished-replay callback asks_of calls declared config made b f r named name bec
             ∙ none_built declared made b.func.now b.ctx.now.parts b.position stands;
         regions = become.regions;
       };
-      edges_match = λ typed. matches (keep_premises.edges_match all.reading (script_of made) (calls_of config declared calls) all.joined typed);
+      edges_match = finishes.edges_match;
       named = name;
       accepted = accepted.0;
     }

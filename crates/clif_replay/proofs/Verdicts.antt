@@ -17,6 +17,9 @@ use Rattle.clif_builder.specs.declared.error.FinalizeError.TheVariants as ending
 use Rattle.clif_safepoints.specs.Contexts.{IsFirstTracked}
 use Rattle.clif_builder.specs.Ending.{EndsByLedger, TellsContext}
 use Rattle.clif_builder.specs.Ledger.{ledger_of as plain_ledger_of}
+use Rattle.clif_builder.specs.declared.builder.FunctionBuilder.{FunctionBuilder}
+use Rattle.clif_builder.specs.StandsFor.{StandsFor}
+use Rattle.clif_builder.specs.StandsForCalls.{StandsForCalls}
 use Rattle.clif_calls.specs.declared.call.Call.{Call}
 use Rattle.clif_calls.specs.declared.call.Call.TheVariants as call
 use Rattle.clif_calls.specs.declared.memory.MemoryCall.{MemoryCall}
@@ -35,7 +38,6 @@ use Rattle.clif_expansion.specs.CallsHeadline.{CallsMeanTheSame}
 use Rattle.clif_expansion.specs.CallsVerdict.{CallAttempt, call_blames_variable, made, verdict_on_call_attempts, verdict_on_calls_from}
 use Rattle.clif_expansion.specs.ScriptCall.{Ask, ScriptCall, call_allowed, call_refusal, ledger_of, ledger_with_call}
 use Rattle.clif_expansion.proofs.JoinedCalls.{fold_on, joined_calls}
-use Rattle.clif_expansion.proofs.calls.Headline.{calls_mean}
 use Rattle.clif_expansion.proofs.calls.Verdicts.{verdicts_are_read}
 
 -- the script's calls of the first ones of a list, and their ledger
@@ -204,7 +206,7 @@ of-width : (config : TargetFrontendConfig) (declared : SignatureShape) (ledger :
 of-width config declared ledger (call.Memory called) = moved-of-width config ledger called (moves_nothing (operation_in called))
 of-width config declared ledger _ = tt
 
-pub all-of-width : (config : TargetFrontendConfig) (declared : SignatureShape) (ledger : Ledger) (calls : List Call)
+all-of-width : (config : TargetFrontendConfig) (declared : SignatureShape) (ledger : Ledger) (calls : List Call)
     → AllByRecursion (IsOfWidth (pointer_bits config.pointer_width)) (calls_from config declared ledger calls)
 all-of-width config declared ledger [] = tt
 all-of-width config declared ledger (c ∷ calls) =
@@ -215,14 +217,18 @@ pub all-replayed : (config : TargetFrontendConfig) (declared : SignatureShape) (
 all-replayed config declared calls made replayed =
     subst (λ (list : List Call). ArePlainCalls (script_of made) (calls_of config declared list)) (take_all (length calls) calls (omega arith)) replayed.plain
 
--- and what they mean is what the plain calls mean
-pub means-replayed : (config : TargetFrontendConfig) (declared : SignatureShape) (calls : List Call) (made : List AnsweredCall) (f : Body) → IsReplayed config declared calls (length calls) made
-    → MeansTheSame (script_of made) declared config.pointer_width (view_of f) → CallsMeanTheSame (calls_of config declared calls) declared config.pointer_width (view_of f)
-means-replayed config declared calls made f replayed means =
-    subst (λ (list : List Call). CallsMeanTheSame (calls_of config declared list) declared config.pointer_width (view_of f)) (take_all (length calls) calls (omega arith))
-    (calls_mean replayed.plain.reading (script_of made) (calls_before config declared calls (length calls)) replayed.plain.joined declared config.pointer_width (view_of f)
-    (replayed.plain.performed (pointer_bits config.pointer_width) (all-of-width config declared empty_ledger (take (length calls) calls)))
-    (verdicts_are_read.may_be_made empty_ledger (calls_before config declared calls (length calls)) replayed.taken) means)
+-- the builder stands for the script's calls
+pub stands-replayed : {R : Type 0} (config : TargetFrontendConfig) (declared : SignatureShape) (calls : List Call) (made : List AnsweredCall) (b : FunctionBuilder R)
+    → IsReplayed config declared calls (length calls) made → StandsFor declared made b → StandsForCalls config.pointer_width declared (calls_of config declared calls) b
+stands-replayed config declared calls made b replayed stands =
+    subst (λ (list : List Call). StandsForCalls config.pointer_width declared (calls_of config declared list) b) (take_all (length calls) calls (omega arith)) (record {
+      made = made;
+      stands = stands;
+      reading = replayed.plain.reading;
+      joined = replayed.plain.joined;
+      performed = replayed.plain.performed (pointer_bits config.pointer_width) (all-of-width config declared empty_ledger (take (length calls) calls));
+      allowed = verdicts_are_read.may_be_made empty_ledger (calls_before config declared calls (length calls)) replayed.taken;
+    })
 
 -- behind the last call `finalize` decides
 verdict-end : (config : TargetFrontendConfig) (declared : SignatureShape) (calls : List Call) (made : List AnsweredCall) → IsReplayed config declared calls (length calls) made

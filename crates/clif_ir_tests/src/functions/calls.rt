@@ -163,7 +163,7 @@ static CASES: [Case; 5] = [
             Is(ResultAt(1, 0, None)),
         ],
     },
-    // A comment names the constants among the operands and then those that edges pass, and no context.
+    // A comment names the constants among the operands, and then those among edge arguments and contexts, as they are printed.
     Case {
         name: "comments_on_edges",
         head: SAMPLE,
@@ -204,7 +204,7 @@ static CASES: [Case; 5] = [
                 ),
             ),
             Prints(
-                "function %sample() system_v {\n    sig0 = (i32) -> i32 system_v\n    fn0 = %g sig0\n\nblock0(v0: i32):\n    v1 = iconst.i64 0\n    v2 = iconst.i32 5\n    try_call_indirect v1(v2), sig0, block1(v2, ret0, v1), [ context v2, tag3: block1(exn0, v0, v1), default: block1(v2, v2, exn1) ]  ; v1 = 0, v2 = 5, v2 = 5, v1 = 0, v1 = 0, v2 = 5, v2 = 5\n\nblock1:\n    try_call fn0(v0), sig0, block0, [ context v1 ]\n}\n",
+                "function %sample() system_v {\n    sig0 = (i32) -> i32 system_v\n    fn0 = %g sig0\n\nblock0(v0: i32):\n    v1 = iconst.i64 0\n    v2 = iconst.i32 5\n    try_call_indirect v1(v2), sig0, block1(v2, ret0, v1), [ context v2, tag3: block1(exn0, v0, v1), default: block1(v2, v2, exn1) ]  ; v1 = 0, v2 = 5, v2 = 5, v1 = 0, v2 = 5, v1 = 0, v2 = 5, v2 = 5\n\nblock1:\n    try_call fn0(v0), sig0, block0, [ context v1 ]  ; v1 = 0\n}\n",
             ),
         ],
     },

@@ -4,8 +4,10 @@ use Rattle.clif_builder.specs.declared.builder.FunctionBuilder.{FunctionBuilder}
 use Rattle.clif_records.specs.Tracking.{recorded_of}
 use Rattle.std.proofs.lemmas.Grind.{common_steps}
 use Rattle.clif_replay.specs.Replay.{ReplayTells}
+use Rattle.clif_replay.specs.Requests.{calls_of}
 use Rattle.clif_replay.specs.declared.script.ReplayError.{ReplayError}
 use Rattle.clif_replay.proofs.Replays.{finished-as, finished-mapped, finished-name, finished-replay, told-end}
+use Rattle.clif_replay.proofs.Verdicts.{stands-replayed}
 use Rattle.clif_replay.proofs.script.build.Goals as goal
 
 pub returns-in-Ok-clause-finished : goal.returns-in-Ok-clause-finished
@@ -22,7 +24,10 @@ returns-in-Ok-clause-finished g c =
     (finished-replay c.args.region _ c.args.calls.now start.signature c.args.config made.0 builder finished c.finalize-finished.result start.name
     (finished-name builder.func.now finished (recorded_of builder.ctx.now.parts.ssa.tracking) _ _ _ done.spilled ∙ c.in_ok-made.ensures.name)
     (finished-mapped builder.func.now finished (recorded_of builder.ctx.now.parts.ssa.tracking) _ builder.ctx.now.region _ _ c.args.region asked done.spilled)
-    made.1 made.2 (done.same_meaning start.signature made.0 made.1) (done.edges_match start.signature made.0 made.1) (done.found start.signature made.0 made.1) ledger c.in-Ok.is)
+    made.1 made.2
+    (done.calls start.signature (calls_of c.args.config start.signature c.args.calls.now)
+    (stands-replayed c.args.config start.signature c.args.calls.now made.0 builder made.2 made.1))
+    (done.found start.signature made.0 made.1) ledger c.in-Ok.is)
 
 pub returns-in-Err-clause-told : goal.returns-in-Err-clause-told
 returns-in-Err-clause-told g c =
