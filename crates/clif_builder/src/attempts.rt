@@ -42,28 +42,47 @@ impl<'a, R> FunctionBuilder<'a, R> {
     ) -> Result<Result<Value, UseVariableError>, BuildError>
         requires current { HasCurrent self.old }
         ensures call { IsCall self.old self.new result }
-        ensures declared { IfOk result (λ answer. OnOk answer (variable < length self.old.ctx.now.parts.variables)) }
-        ensures refused { IfOk result (λ answer. IfErr answer (RefusesUse self.old self.new variable)) }
-        ensures uses { IfSome self.old.position (λ block. IfOk result (λ answer. IfOk answer (Uses self.old self.new variable block))) }
+        ensures declared { IfOk result (λ answer. OnOk answer
+            (variable < length self.old.ctx.now.parts.variables)) }
+        ensures refused { IfOk result (λ answer. IfErr answer
+            (RefusesUse self.old self.new variable)) }
+        ensures uses { IfSome self.old.position (λ block. IfOk result (λ answer. IfOk answer
+            (Uses self.old self.new variable block))) }
         ensures typed { IfOk result (λ answer. IfOk answer (λ v.
-            slice_get self.old.ctx.now.parts.variables variable ≡ Some (value_at self.new.func.now v).ty)) }
-        ensures seals { OnOk result (SealedStays self.old.ctx.now.parts.ssa self.new.ctx.now.parts.ssa) }
-        ensures is_use { (ty : «Type») → slice_get self.old.ctx.now.parts.variables variable ≡ Some ty → IfSome self.old.position (λ block. IfOk result (λ answer. IfOk answer (λ value. (told : List ℕ) × IsUse (inserted_in self.old.func.now block) self.old.ctx.now.parts.ssa self.new.func.now self.new.ctx.now.parts.ssa variable ty block value told × Begins self.old.ctx.now.parts self.new.ctx.now.parts (block ∷ told)))) }
-        ensures status { (calls : List AnsweredCall) → AgreesWithLedger calls self.old → IfSome self.old.position (λ block. OnOk result (SetsStatus self.old.ctx.now.parts self.new.ctx.now.parts block (begun (status_of self.old.ctx.now.parts block)))) }
+            slice_get self.old.ctx.now.parts.variables variable
+            ≡ Some (value_at self.new.func.now v).ty)) }
+        ensures seals { OnOk result (SealedStays self.old.ctx.now.parts.ssa
+            self.new.ctx.now.parts.ssa) }
+        ensures is_use { (ty : «Type») → slice_get self.old.ctx.now.parts.variables variable ≡ Some
+            ty → IfSome self.old.position (λ block. IfOk result (λ answer. IfOk answer (λ value.
+            (told : List ℕ) × IsUse (inserted_in self.old.func.now block) self.old.ctx.now.parts.ssa
+            self.new.func.now self.new.ctx.now.parts.ssa variable ty block value told
+            × Begins self.old.ctx.now.parts self.new.ctx.now.parts (block ∷ told)))) }
+        ensures status { (calls : List AnsweredCall) → AgreesWithLedger calls self.old
+            → IfSome self.old.position (λ block. OnOk result
+            (SetsStatus self.old.ctx.now.parts self.new.ctx.now.parts block (begun
+            (status_of self.old.ctx.now.parts block)))) }
         ensures variables { self.new.ctx.now.parts.variables ≡ self.old.ctx.now.parts.variables }
-        ensures pools { (ty : «Type») → slice_get self.old.ctx.now.parts.variables variable ≡ Some ty → MayPool ty self.old.func.now.tables self.new.func.now.tables }
-        ensures full { (ty : «Type») → slice_get self.old.ctx.now.parts.variables variable ≡ Some ty → result ≡ Err BuildError.Full → UseIsFull ty self.new.func.now }
-        ensures full_declared { result ≡ Err BuildError.Full → variable < length self.old.ctx.now.parts.variables }
+        ensures pools { (ty : «Type») → slice_get self.old.ctx.now.parts.variables variable ≡ Some
+            ty → MayPool ty self.old.func.now.tables self.new.func.now.tables }
+        ensures full { (ty : «Type») → slice_get self.old.ctx.now.parts.variables variable ≡ Some ty
+            → result ≡ Err BuildError.Full → UseIsFull ty self.new.func.now }
+        ensures full_declared { result ≡ Err BuildError.Full
+            → variable < length self.old.ctx.now.parts.variables }
         ensures constructs { IfSome self.old.position (λ block. result ≡ Err BuildError.Full →
             OnlyConstructs (inserted_in self.old.func.now block) self.new.func.now) }
         ensures told { IsTold self.old self.new result
             (λ _. Unit {0})
             (use_told variable) }
-        ensures parameters { (signature : SignatureShape) (calls : List AnsweredCall) → StandsFor signature calls self.new → KeepsNoParameter calls self.new.func.now self.new.ctx.now.parts.ssa }
-        ensures exists { IfOk result (λ answer. IfOk answer (λ v. v < length self.new.func.now.values)) }
+        ensures parameters { (signature : SignatureShape) (calls : List AnsweredCall)
+            → StandsFor signature calls self.new → KeepsNoParameter calls self.new.func.now
+            self.new.ctx.now.parts.ssa }
+        ensures exists { IfOk result (λ answer. IfOk answer
+            (λ v. v < length self.new.func.now.values)) }
         ensures grows { OnOk result (Grows self.old.func.now self.new.func.now) }
         ensures remembers { (x b : ℕ) → OnOk result (RemembersIn x b self.old self.new) }
-        ensures has_record { IfSome self.old.position (λ block. IfOk result (λ answer. IfOk answer (HasRecordIn self.new variable block))) }
+        ensures has_record { IfSome self.old.position (λ block. IfOk result (λ answer. IfOk answer
+            (HasRecordIn self.new variable block))) }
         ensures current { OnOk result (HasCurrent self.new) }
     {
         if !self.is_declared(variable) {
@@ -92,12 +111,18 @@ impl<'a, R> FunctionBuilder<'a, R> {
         requires current { HasCurrent self.old }
         requires value_exists { value < length self.old.func.now.values }
         ensures call { IsCall self.old self.new result }
-        ensures same_type { IfOk result (λ answer. OnOk answer (slice_get self.old.ctx.now.parts.variables variable ≡ Some (value_at self.old.func.now value).ty)) }
-        ensures refused { IfOk result (λ answer. IfErr answer (RefusesAssignment self.old self.new variable value)) }
-        ensures refusal { (error : DefVariableError) → (result ≡ Ok (Err error)) ↔ ((self.old.failed ≡ false) × IsMistyped self.old variable value error) }
+        ensures same_type { IfOk result (λ answer. OnOk answer
+            (slice_get self.old.ctx.now.parts.variables variable ≡ Some
+            (value_at self.old.func.now value).ty)) }
+        ensures refused { IfOk result (λ answer. IfErr answer
+            (RefusesAssignment self.old self.new variable value)) }
+        ensures refusal { (error : DefVariableError) → (result ≡ Ok (Err error))
+            ↔ ((self.old.failed ≡ false) × IsMistyped self.old variable value error) }
         ensures function { self.new.func.now ≡ self.old.func.now }
-        ensures records { IfSome self.old.position (λ block. IfOk result (λ answer. OnOk answer (Records self.old.ctx.now.parts.ssa self.new.ctx.now.parts.ssa variable block value))) }
-        ensures tracks { IfOk result (λ answer. OnOk answer (TracksBinding self.old.ctx.now.parts self.new.ctx.now.parts variable value)) }
+        ensures records { IfSome self.old.position (λ block. IfOk result (λ answer. OnOk answer
+            (Records self.old.ctx.now.parts.ssa self.new.ctx.now.parts.ssa variable block value))) }
+        ensures tracks { IfOk result (λ answer. OnOk answer
+            (TracksBinding self.old.ctx.now.parts self.new.ctx.now.parts variable value)) }
         ensures sealed { self.new.ctx.now.parts.ssa.blocks ≡ self.old.ctx.now.parts.ssa.blocks }
         ensures status { self.new.ctx.now.parts.status ≡ self.old.ctx.now.parts.status }
         ensures variables { self.new.ctx.now.parts.variables ≡ self.old.ctx.now.parts.variables }
@@ -106,7 +131,8 @@ impl<'a, R> FunctionBuilder<'a, R> {
             (λ calls. NamesValue calls name value)
             (λ _. answered (DefVar variable name) [])) }
         ensures grows { OnOk result (Grows self.old.func.now self.new.func.now) }
-        ensures remembers { (x b : ℕ) → (x ≡ variable → self.old.position ≡ Some b → ⊥) → OnOk result (RemembersIn x b self.old self.new) }
+        ensures remembers { (x b : ℕ) → (x ≡ variable → self.old.position ≡ Some b → ⊥)
+            → OnOk result (RemembersIn x b self.old self.new) }
         ensures current { OnOk result (HasCurrent self.new) }
     {
         if self.failed {
@@ -136,7 +162,8 @@ impl<'a, R> FunctionBuilder<'a, R> {
     // Whether a value may be assigned to a variable.
     fn check_assignment(&self, variable: Variable, value: Value) -> Result<(), DefVariableError>
         requires { value < length self.now.func.now.values }
-        ensures same_type { OnOk result (slice_get self.now.ctx.now.parts.variables variable ≡ Some (value_at self.now.func.now value).ty) }
+        ensures same_type { OnOk result (slice_get self.now.ctx.now.parts.variables variable ≡ Some
+            (value_at self.now.func.now value).ty) }
         ensures mistyped { IfErr result (IsMistyped self.now variable value) }
     {
         let Some(ty) = self.ctx.parts.var_type(variable) else {

@@ -27,7 +27,8 @@ impl<'a, R> FunctionBuilder<'a, R> {
     pub fn block_params(&self, block: Block) -> &[Value]
         requires { block < length self.now.func.now.blocks }
         ensures exact { result.now ≡ (block_at self.now.func.now block).params }
-        ensures exist { EachIndex result.now (λ k. slice_index result.now k < length self.now.func.now.values) }
+        ensures exist { EachIndex result.now (λ k. slice_index result.now k < length
+            self.now.func.now.values) }
     {
         self.func.block_params(block)
     }
@@ -45,7 +46,8 @@ impl<'a, R> FunctionBuilder<'a, R> {
         requires outside { Stands block self.old.func.now.layout → ⊥ }
         requires inside { Stands after self.old.func.now.layout }
         ensures call { IsCall self.old self.new result }
-        ensures function { OnOk result (self.new.func.now ≡ with_layout_after self.old.func.now block after) }
+        ensures function { OnOk result (self.new.func.now ≡ with_layout_after self.old.func.now
+            block after) }
         ensures context { self.new.ctx.now.parts ≡ self.old.ctx.now.parts }
         ensures never_full { result ≢ Err BuildError.Full }
         ensures never_memory { result ≢ Err BuildError.Memory }
@@ -73,8 +75,12 @@ impl<'a, R> FunctionBuilder<'a, R> {
         ensures position { self.new.position ≡ self.old.position }
         ensures srcloc { self.new.srcloc ≡ self.old.srcloc }
         ensures failed { self.new.failed ≡ self.old.failed }
-        ensures ledger { (calls : List AnsweredCall) (name : Name) → AgreesWithLedger calls self.old → NamesBlock calls name block → AgreesWithLedger (calls ++ record { request = SetColdBlock name; numbers = [] } ∷ []) self.new }
-        ensures stands { (signature : SignatureShape) (calls : List AnsweredCall) (name : Name) → StandsFor signature calls self.old → NamesBlock calls name block → StandsFor signature (calls ++ record { request = SetColdBlock name; numbers = [] } ∷ []) self.new }
+        ensures ledger { (calls : List AnsweredCall) (name : Name) → AgreesWithLedger calls self.old
+            → NamesBlock calls name block → AgreesWithLedger (calls ++ answered
+            (SetColdBlock name) [] ∷ []) self.new }
+        ensures stands { (signature : SignatureShape) (calls : List AnsweredCall) (name : Name)
+            → StandsFor signature calls self.old → NamesBlock calls name block
+            → StandsFor signature (calls ++ answered (SetColdBlock name) [] ∷ []) self.new }
         ensures grows { Grows self.old.func.now self.new.func.now }
         ensures remembers { (x b : ℕ) → RemembersIn x b self.old self.new }
         ensures current { HasCurrent self.old → HasCurrent self.new }
@@ -94,8 +100,11 @@ impl<'a, R> FunctionBuilder<'a, R> {
     pub fn ensure_inserted_block(&mut self) -> Result<(), BuildError>
         requires current { HasCurrent self.old }
         ensures call { IsCall self.old self.new result }
-        ensures function { IfSome self.old.position (λ block. OnOk result (self.new.func.now ≡ inserted_in self.old.func.now block)) }
-        ensures status { IfSome self.old.position (λ block. OnOk result (SetsStatus self.old.ctx.now.parts self.new.ctx.now.parts block (begun (status_of self.old.ctx.now.parts block)))) }
+        ensures function { IfSome self.old.position (λ block. OnOk result
+            (self.new.func.now ≡ inserted_in self.old.func.now block)) }
+        ensures status { IfSome self.old.position (λ block. OnOk result
+            (SetsStatus self.old.ctx.now.parts self.new.ctx.now.parts block (begun
+            (status_of self.old.ctx.now.parts block)))) }
         ensures ssa { self.new.ctx.now.parts.ssa ≡ self.old.ctx.now.parts.ssa }
         ensures variables { self.new.ctx.now.parts.variables ≡ self.old.ctx.now.parts.variables }
         ensures never_full { result ≢ Err BuildError.Full }
@@ -170,7 +179,8 @@ impl<'a, R> FunctionBuilder<'a, R> {
         requires pristine { status_of self.old.ctx.now.parts block ≡ BlockStatus.Empty }
         requires alone { predecessors_of self.old.ctx.now.parts.ssa block ≡ [] }
         ensures call { IsCall self.old self.new result }
-        ensures function { OnOk result (self.new.func.now ≡ with_params self.old.func.now block (types_of self.old.func.now.signature.params)) }
+        ensures function { OnOk result (self.new.func.now ≡ with_params self.old.func.now block
+            (types_of self.old.func.now.signature.params)) }
         ensures context { self.new.ctx.now.parts ≡ self.old.ctx.now.parts }
         ensures full { result ≡ Err BuildError.Full → length self.new.func.now.values ≡ 2 ^ 32 - 1 }
         ensures room { result ≡ Err BuildError.Full →
@@ -205,7 +215,8 @@ impl<'a, R> FunctionBuilder<'a, R> {
         requires exists { block < length self.old.func.now.blocks }
         requires pristine { status_of self.old.ctx.now.parts block ≡ BlockStatus.Empty }
         ensures call { IsCall self.old self.new result }
-        ensures function { OnOk result (self.new.func.now ≡ with_params self.old.func.now block (types_of self.old.func.now.signature.returns)) }
+        ensures function { OnOk result (self.new.func.now ≡ with_params self.old.func.now block
+            (types_of self.old.func.now.signature.returns)) }
         ensures context { self.new.ctx.now.parts ≡ self.old.ctx.now.parts }
         ensures full { result ≡ Err BuildError.Full → length self.new.func.now.values ≡ 2 ^ 32 - 1 }
         ensures room { result ≡ Err BuildError.Full →
@@ -230,7 +241,8 @@ impl<'a, R> FunctionBuilder<'a, R> {
 // Appends a parameter to a block for each parameter of the function.
 fn append_function_params(func: &mut Function, block: Block) -> Result<(), BuildError>
     requires { block < length func.old.blocks }
-    ensures ok { OnOk result (func.new ≡ with_params func.old block (types_of func.old.signature.params)) }
+    ensures ok { OnOk result (func.new ≡ with_params func.old block
+        (types_of func.old.signature.params)) }
     ensures grows { Grows func.old func.new }
     ensures full { result ≡ Err BuildError.Full → length func.new.values ≡ 2 ^ 32 - 1 }
     ensures room { result ≡ Err BuildError.Full →
@@ -247,7 +259,8 @@ fn append_function_params(func: &mut Function, block: Block) -> Result<(), Build
 // Appends a parameter to a block for each value that the function returns.
 fn append_function_returns(func: &mut Function, block: Block) -> Result<(), BuildError>
     requires { block < length func.old.blocks }
-    ensures ok { OnOk result (func.new ≡ with_params func.old block (types_of func.old.signature.returns)) }
+    ensures ok { OnOk result (func.new ≡ with_params func.old block
+        (types_of func.old.signature.returns)) }
     ensures grows { Grows func.old func.new }
     ensures full { result ≡ Err BuildError.Full → length func.new.values ≡ 2 ^ 32 - 1 }
     ensures room { result ≡ Err BuildError.Full →

@@ -48,10 +48,16 @@ impl<'a, R> FunctionBuilder<'a, R> {
         requires new_unsealed { is_yes (sealed_of self.old.ctx.now.parts.ssa new_block) ≡ false }
         requires leads { Stands inst (predecessors_of self.old.ctx.now.parts.ssa old_block) }
         ensures call { IsCall self.old self.new result }
-        ensures redirects { OnOk result (Redirects self.old.func.now self.old.ctx.now.parts self.new.func.now self.new.ctx.now.parts inst old_block new_block) }
-        ensures kept { OnErr result ((self.new.func.now ≡ self.old.func.now) × SamePredecessors self.old.ctx.now.parts.ssa self.new.ctx.now.parts.ssa) }
+        ensures redirects { OnOk result (Redirects self.old.func.now self.old.ctx.now.parts
+            self.new.func.now self.new.ctx.now.parts inst old_block new_block) }
+        ensures kept { OnErr result ((self.new.func.now ≡ self.old.func.now)
+            × SamePredecessors self.old.ctx.now.parts.ssa self.new.ctx.now.parts.ssa) }
         ensures never_full { result ≢ Err BuildError.Full }
-        ensures stands { (signature : SignatureShape) (calls : List AnsweredCall) (branch from to : Name) → StandsFor signature calls self.old → NamesInstruction calls branch inst → NamesBlock calls from old_block → NamesBlock calls to new_block → OnOk result (StandsFor signature (calls ++ answered (ChangeJumpDestination branch from to) [] ∷ []) self.new) }
+        ensures stands { (signature : SignatureShape) (calls : List AnsweredCall)
+            (branch from to : Name) → StandsFor signature calls self.old
+            → NamesInstruction calls branch inst → NamesBlock calls from old_block
+            → NamesBlock calls to new_block → OnOk result (StandsFor signature (calls ++ answered
+            (ChangeJumpDestination branch from to) [] ∷ []) self.new) }
         ensures grows { OnOk result (Grows self.old.func.now self.new.func.now) }
         ensures remembers { (x b : ℕ) → OnOk result (RemembersIn x b self.old self.new) }
         ensures current { HasCurrent self.old → OnOk result (HasCurrent self.new) }

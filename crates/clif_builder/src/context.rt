@@ -77,8 +77,10 @@ impl StatusTable {
     ///
     /// `Memory`, where memory is refused. Each status is as it was then.
     pub fn set(&mut self, block: Block, status: BlockStatus) -> Result<(), BuildError>
-        ensures ok { OnOk result ((b : ℕ) → slice_index_or self.new b BlockStatus.Empty ≡ (if b == block then status else slice_index_or self.old b BlockStatus.Empty)) }
-        ensures err { OnErr result ((b : ℕ) → slice_index_or self.new b BlockStatus.Empty ≡ slice_index_or self.old b BlockStatus.Empty) }
+        ensures ok { OnOk result ((b : ℕ) → slice_index_or self.new b BlockStatus.Empty ≡
+            (if b == block then status else slice_index_or self.old b BlockStatus.Empty)) }
+        ensures err { OnErr result ((b : ℕ) → slice_index_or self.new b BlockStatus.Empty ≡
+            slice_index_or self.old b BlockStatus.Empty) }
         ensures only_memory { OnErr result (result ≡ Err BuildError.Memory) }
     {
         let missing = (block.index() + 1).saturating_sub(self.statuses.len());
@@ -216,7 +218,8 @@ impl ContextParts {
 
     /// Makes a variable of this type.
     pub(crate) fn declare_var(&mut self, ty: Type) -> Result<Variable, BuildError>
-        ensures ok { OnOk result (self.new ≡ record self.old { variables = self.old.variables ++ ty ∷ [] }) }
+        ensures ok { OnOk result (self.new ≡ record self.old
+            { variables = self.old.variables ++ ty ∷ [] }) }
         ensures ssa { self.new.ssa ≡ self.old.ssa }
         ensures number { IfOk result (λ v. v ≡ length self.old.variables) }
         ensures full { result ≡ Err BuildError.Full → length self.old.variables ≡ 2 ^ 32 - 1 }
@@ -247,7 +250,8 @@ impl ContextParts {
 
     /// Marks a variable. After an error nothing has changed.
     pub(crate) fn mark_var(&mut self, variable: Variable) -> Result<(), BuildError>
-        ensures ok { OnOk result (self.new ≡ with_tracking self.old (with_mark self.old.ssa.tracking variable)) }
+        ensures ok { OnOk result (self.new ≡ with_tracking self.old
+            (with_mark self.old.ssa.tracking variable)) }
         ensures err { OnErr result (self.new ≡ self.old) }
         ensures only_memory { OnErr result (result ≡ Err BuildError.Memory) }
     {
@@ -256,7 +260,8 @@ impl ContextParts {
 
     /// Records a value for stack maps. After an error nothing has changed.
     pub(crate) fn record_value(&mut self, value: Value) -> Result<(), BuildError>
-        ensures ok { OnOk result (self.new ≡ with_tracking self.old (with_recorded self.old.ssa.tracking value)) }
+        ensures ok { OnOk result (self.new ≡ with_tracking self.old
+            (with_recorded self.old.ssa.tracking value)) }
         ensures err { OnErr result (self.new ≡ self.old) }
         ensures only_memory { OnErr result (result ≡ Err BuildError.Memory) }
     {
@@ -275,7 +280,8 @@ impl ContextParts {
     ) -> Result<(), FinalizeError>
         requires { RecordedFits func.old (recorded_of self.old.ssa.tracking) }
         ensures answer { TellsSpill result }
-        ensures spilled { OnOk result (SpillsAndAsks func.old (recorded_of self.old.ssa.tracking) pointer
+        ensures spilled { OnOk result (SpillsAndAsks func.old
+            (recorded_of self.old.ssa.tracking) pointer
             region.now (λ c. post (c.ask.vtable, c.ask.value)) func.new) }
         ensures emptied { OnErr result (func.new ≡ empty_function) }
         ensures context { self.new ≡ self.old }
@@ -303,9 +309,11 @@ impl ContextParts {
         block: Block,
     ) -> Result<(), BuildError>
         ensures ok { OnOk result (Records self.old.ssa self.new.ssa variable block value) }
-        ensures tracking { OnOk result (self.new.ssa.tracking ≡ with_binding self.old.ssa.tracking variable value) }
+        ensures tracking { OnOk result (self.new.ssa.tracking ≡ with_binding self.old.ssa.tracking
+            variable value) }
         ensures blocks { self.new.ssa.blocks ≡ self.old.ssa.blocks }
-        ensures names { (f : Body) → value < length f.values → NamesExist f self.old.ssa → NamesExist f self.new.ssa }
+        ensures names { (f : Body) → value < length f.values → NamesExist f self.old.ssa
+            → NamesExist f self.new.ssa }
         ensures looks_once { LooksOnce self.old.ssa → LooksOnce self.new.ssa }
         ensures status { self.new.status ≡ self.old.status }
         ensures variables { self.new.variables ≡ self.old.variables }
@@ -328,13 +336,19 @@ impl ContextParts {
     ) -> Result<Value, BuildError>
         requires exists { block < length func.old.blocks }
         requires named { NamesExist func.old self.old.ssa }
-        ensures known { IfSome (record_of self.old.ssa variable block) (λ v. OnOk result ((func.new ≡ func.old) × (self.new.ssa ≡ self.old.ssa)) × IfOk result (λ w. w ≡ v)) }
-        ensures waits { record_of self.old.ssa variable block ≡ None → is_yes (sealed_of self.old.ssa block) ≡ false → OnOk result (Waits self.old.ssa self.new.ssa func.old func.new variable ty block) × IfOk result (λ w. w ≡ length func.old.values) }
+        ensures known { IfSome (record_of self.old.ssa variable block) (λ v. OnOk result
+            ((func.new ≡ func.old) × (self.new.ssa ≡ self.old.ssa)) × IfOk result (λ w. w ≡ v)) }
+        ensures waits { record_of self.old.ssa variable block ≡ None
+            → is_yes (sealed_of self.old.ssa block) ≡ false
+            → OnOk result (Waits self.old.ssa self.new.ssa func.old func.new variable ty block)
+            × IfOk result (λ w. w ≡ length func.old.values) }
         ensures zero { record_of self.old.ssa variable block ≡ None
             → is_yes (sealed_of self.old.ssa block) ≡ true → predecessors_of self.old.ssa block ≡ []
             → OnOk result (Zeroes self.old.ssa self.new.ssa func.old func.new variable ty block)
             × IfOk result (λ w. w ≡ length func.old.values + 1 + steps_before ty) }
-        ensures is_use { IfOk result (λ w. (told : List ℕ) × IsUse func.old self.old.ssa func.new self.new.ssa variable ty block w told × Begins self.old self.new told) }
+        ensures is_use { IfOk result (λ w. (told : List ℕ)
+            × IsUse func.old self.old.ssa func.new self.new.ssa variable ty block w told
+            × Begins self.old self.new told) }
         ensures names { NamesExist func.new self.new.ssa }
         ensures exists { IfOk result (λ w. w < length func.new.values) }
         ensures looks_once { LooksOnce self.old.ssa → LooksOnce self.new.ssa }
@@ -356,19 +370,29 @@ impl ContextParts {
     /// Seals a block. Blocks that get a zero are begun.
     pub(crate) fn seal_block(&mut self, block: Block, func: &mut Function) -> Result<(), BuildError>
         requires named { NamesExist func.old self.old.ssa }
-        ensures sealed { predecessors_of self.old.ssa block ≡ [] → OnOk result (Seals self.old.ssa self.new.ssa block) }
-        ensures records { predecessors_of self.old.ssa block ≡ [] → SameRecords self.old.ssa self.new.ssa }
-        ensures function { predecessors_of self.old.ssa block ≡ [] → OnOk result (func.new ≡ completed func.old (pending_of (sealed_of self.old.ssa block))) }
-        ensures is_sealing { OnOk result ((told : List ℕ) × IsSealing func.old self.old.ssa func.new self.new.ssa block told × Begins self.old self.new told) }
-        ensures alone { pending_of (sealed_of self.old.ssa block) ≡ [] → OnOk result (SealsAlone func.old self.old.ssa func.new self.new.ssa block) }
+        ensures sealed { predecessors_of self.old.ssa block ≡ []
+            → OnOk result (Seals self.old.ssa self.new.ssa block) }
+        ensures records { predecessors_of self.old.ssa block ≡ []
+            → SameRecords self.old.ssa self.new.ssa }
+        ensures function { predecessors_of self.old.ssa block ≡ []
+            → OnOk result (func.new ≡ completed func.old (pending_of
+            (sealed_of self.old.ssa block))) }
+        ensures is_sealing { OnOk result ((told : List ℕ)
+            × IsSealing func.old self.old.ssa func.new self.new.ssa block told
+            × Begins self.old self.new told) }
+        ensures alone { pending_of (sealed_of self.old.ssa block) ≡ []
+            → OnOk result (SealsAlone func.old self.old.ssa func.new self.new.ssa block) }
         ensures names { NamesExist func.new self.new.ssa }
         ensures looks_once { LooksOnce self.old.ssa → LooksOnce self.new.ssa }
         ensures more { HasMore func.old func.new }
         ensures stay { RecordsStay self.old.ssa self.new.ssa }
         ensures variables { SameVariables self.old self.new }
         ensures constructs { OnlyConstructs func.old func.new }
-        ensures pools { MayPoolAll (types_of func.old (pending_of (sealed_of self.old.ssa block))) func.old.tables func.new.tables }
-        ensures full { result ≡ Err BuildError.Full → SealingIsFull (Contains (types_of func.old (pending_of (sealed_of self.old.ssa block)))) func.new }
+        ensures pools { MayPoolAll (types_of func.old (pending_of
+            (sealed_of self.old.ssa block))) func.old.tables func.new.tables }
+        ensures full { result ≡ Err BuildError.Full
+            → SealingIsFull (Contains (types_of func.old (pending_of
+            (sealed_of self.old.ssa block)))) func.new }
         ensures never_failed { result ≢ Err BuildError.Failed }
     {
         let side_effects = self.ssa.seal_block(block, func)?;
@@ -379,7 +403,9 @@ impl ContextParts {
     /// Seals each block of the function that isn't sealed, by rising number. Blocks that get a zero are begun.
     pub(crate) fn seal_all_blocks(&mut self, func: &mut Function) -> Result<(), BuildError>
         requires named { NamesExist func.old self.old.ssa }
-        ensures is_sealing { OnOk result ((told : List ℕ) × IsSealingAll func.old self.old.ssa func.new self.new.ssa told × Begins self.old self.new told) }
+        ensures is_sealing { OnOk result ((told : List ℕ)
+            × IsSealingAll func.old self.old.ssa func.new self.new.ssa told
+            × Begins self.old self.new told) }
         ensures names { NamesExist func.new self.new.ssa }
         ensures looks_once { LooksOnce self.old.ssa → LooksOnce self.new.ssa }
         ensures more { HasMore func.old func.new }
@@ -387,7 +413,8 @@ impl ContextParts {
         ensures variables { SameVariables self.old self.new }
         ensures constructs { OnlyConstructs func.old func.new }
         ensures pools { MayPoolWaiting func.old self.old.ssa func.new.tables }
-        ensures full { result ≡ Err BuildError.Full → SealingIsFull (WaitsWithType func.old self.old.ssa) func.new }
+        ensures full { result ≡ Err BuildError.Full
+            → SealingIsFull (WaitsWithType func.old self.old.ssa) func.new }
         ensures never_failed { result ≢ Err BuildError.Failed }
     {
         let side_effects = self.ssa.seal_all_blocks(func)?;
@@ -407,8 +434,10 @@ impl ContextParts {
         requires from_unsealed { is_yes (sealed_of self.old.ssa from) ≡ false }
         requires to_unsealed { is_yes (sealed_of self.old.ssa to) ≡ false }
         requires leads { Stands inst (predecessors_of self.old.ssa from) }
-        ensures moved { OnOk result (MovesBranch func.old self.old.ssa func.new self.new.ssa inst from to) }
-        ensures err { OnErr result ((func.new ≡ func.old) × SamePredecessors self.old.ssa self.new.ssa) }
+        ensures moved { OnOk result (MovesBranch func.old self.old.ssa func.new self.new.ssa inst
+            from to) }
+        ensures err { OnErr result ((func.new ≡ func.old)
+            × SamePredecessors self.old.ssa self.new.ssa) }
         ensures records { self.new.ssa.records ≡ self.old.ssa.records }
         ensures tracking { self.new.ssa.tracking ≡ self.old.ssa.tracking }
         ensures blocks { SameBlocks self.old.ssa self.new.ssa }
@@ -427,11 +456,13 @@ impl ContextParts {
         inst: Inst,
         edges: &[BlockCall],
     ) -> Result<(), BuildError>
-        requires unsealed { (b : ℕ) → Contains (targets edges.now) b → is_yes (sealed_of self.old.ssa b) ≡ false }
+        requires unsealed { (b : ℕ) → Contains (targets edges.now) b
+            → is_yes (sealed_of self.old.ssa b) ≡ false }
         requires new_branch { (b : ℕ) → Contains (predecessors_of self.old.ssa b) inst → ⊥ }
         ensures ok { OnOk result (IsDeclared self.old.ssa inst (targets edges.now) self.new.ssa) }
         ensures none { edges.now ≡ [] → self.new.ssa ≡ self.old.ssa }
-        ensures names { (f : Body) → inst < length f.insts → NamesExist f self.old.ssa → NamesExist f self.new.ssa }
+        ensures names { (f : Body) → inst < length f.insts → NamesExist f self.old.ssa
+            → NamesExist f self.new.ssa }
         ensures looks_once { LooksOnce self.old.ssa → LooksOnce self.new.ssa }
         ensures status { self.new.status ≡ self.old.status }
         ensures variables { SameVariables self.old self.new }

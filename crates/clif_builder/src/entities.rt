@@ -95,7 +95,8 @@ impl<'a, R> FunctionBuilder<'a, R> {
     ///
     /// Those of [`FunctionBuilder::create_sized_stack_slot`].
     pub fn import_function(&mut self, function: ExtFuncData) -> Result<FuncRef, BuildError>
-        requires signature_exists { function.signature < length self.old.func.now.tables.signatures }
+        requires signature_exists { function.signature < length
+            self.old.func.now.tables.signatures }
         ensures { MakesEntry (AFunction function) self.old self.new result }
     {
         if self.failed {

@@ -63,7 +63,8 @@ impl<'a> FunctionBuilder<'a> {
             (recorded_in self.entry) result }
         ensures same_meaning { (signature : SignatureShape) (calls : List AnsweredCall)
             → StandsFor signature calls self.entry
-            → OnOk result (MeansTheSame (script_of calls) signature config.pointer_width (view_of self.exit.0.now)) }
+            → OnOk result (MeansTheSame (script_of calls) signature config.pointer_width (view_of
+            self.exit.0.now)) }
         ensures edges_match { (signature : SignatureShape) (calls : List AnsweredCall)
             → StandsFor signature calls self.entry → CallersEdgesMatch (script_of calls)
             → OnOk result (EdgesMatch (view_of self.exit.0.now)) }
@@ -72,7 +73,8 @@ impl<'a> FunctionBuilder<'a> {
             → OnOk result (AsFound signature config.pointer_width calls self.entry) }
         ensures calls { (signature : SignatureShape) (calls : List ScriptCall)
             → StandsForCalls config.pointer_width signature calls self.entry
-            → OnOk result (FinishesCalls calls signature config.pointer_width self.entry.func.now self.exit.0.now) }
+            → OnOk result (FinishesCalls calls signature config.pointer_width self.entry.func.now
+            self.exit.0.now) }
         ensures spilled { OnOk result (BecomesFinished self.entry.func.now (recorded_in self.entry)
             (pointer_type_of config.pointer_width)
             self.entry.ctx.now.region (λ c. post (c.ask.vtable, c.ask.value)) self.exit.0.now) }

@@ -48,7 +48,14 @@ impl<'a> FunctionBuilder<'a> {
     pub fn new(func: &'a mut Function, ctx: &'a mut FunctionBuilderContext) -> Self
         requires fresh { IsFresh func.old }
         requires empty { IsClear ctx.old }
-        ensures builder { (named : _) × (result ≡ record { func = func.entry; ctx = ctx.entry; position = None; srcloc = no_srcloc; failed = false; named = named }) }
+        ensures builder { (named : _) × (result ≡ record {
+          func = func.entry;
+          ctx = ctx.entry;
+          position = None;
+          srcloc = no_srcloc;
+          failed = false;
+          named = named;
+        }) }
         ensures ledger { AgreesWithLedger [] result }
         ensures stands { StandsFor func.old.signature [] result }
         ensures looks_once { LooksOnce result.ctx.now.parts.ssa }
@@ -72,7 +79,8 @@ impl<'a> FunctionBuilder<'a> {
         requires callable { RegionOf.IsAlwaysCallable ask }
         ensures asks { option_map (λ c. c.ask) self.new.ctx.now.region ≡ Some ask }
         ensures keeps { KeepsAllButRegion self.old self.new }
-        ensures ledger { (calls : List AnsweredCall) → AgreesWithLedger calls self.old → AgreesWithLedger calls self.new }
+        ensures ledger { (calls : List AnsweredCall) → AgreesWithLedger calls self.old
+            → AgreesWithLedger calls self.new }
         ensures stands { (signature : SignatureShape) (calls : List AnsweredCall)
             → StandsFor signature calls self.old → StandsFor signature calls self.new }
         ensures remembers { (x b : ℕ) → RemembersIn x b self.old self.new }
@@ -144,7 +152,8 @@ impl<'a, R> FunctionBuilder<'a, R> {
     /// to be a current block ([`FunctionBuilder::current_block`]).
     pub fn is_unreachable(&self) -> bool
         requires { IsSome self.now.position }
-        ensures { IfSome self.now.position (λ block. result ≡ is_unreachable self.now.func.now self.now.ctx.now.parts block) }
+        ensures { IfSome self.now.position (λ block. result ≡ is_unreachable self.now.func.now
+            self.now.ctx.now.parts block) }
     {
         let Some(block) = self.position else {
             return false;
@@ -161,7 +170,8 @@ impl<'a, R> FunctionBuilder<'a, R> {
     pub fn inst_results(&self, inst: Inst) -> &[Value]
         requires { inst < length self.now.func.now.insts }
         ensures exact { result.now ≡ (inst_at self.now.func.now inst).results }
-        ensures exist { EachIndex result.now (λ k. slice_index result.now k < length self.now.func.now.values) }
+        ensures exist { EachIndex result.now (λ k. slice_index result.now k < length
+            self.now.func.now.values) }
     {
         self.func.inst_results(inst)
     }
@@ -177,8 +187,12 @@ impl<'a, R> FunctionBuilder<'a, R> {
         requires unfilled { status_of self.old.ctx.now.parts block ≢ BlockStatus.Filled }
         requires free { IsTrue (is_free self.old) }
         ensures builder { self.new ≡ with_position self.old block }
-        ensures ledger { (calls : List AnsweredCall) (name : Name) → AgreesWithLedger calls self.old → NamesBlock calls name block → AgreesWithLedger (calls ++ record { request = SwitchToBlock name; numbers = [] } ∷ []) self.new }
-        ensures stands { (signature : SignatureShape) (calls : List AnsweredCall) (name : Name) → StandsFor signature calls self.old → NamesBlock calls name block → StandsFor signature (calls ++ record { request = SwitchToBlock name; numbers = [] } ∷ []) self.new }
+        ensures ledger { (calls : List AnsweredCall) (name : Name) → AgreesWithLedger calls self.old
+            → NamesBlock calls name block → AgreesWithLedger (calls ++ answered
+            (SwitchToBlock name) [] ∷ []) self.new }
+        ensures stands { (signature : SignatureShape) (calls : List AnsweredCall) (name : Name)
+            → StandsFor signature calls self.old → NamesBlock calls name block
+            → StandsFor signature (calls ++ answered (SwitchToBlock name) [] ∷ []) self.new }
         ensures remembers { (x b : ℕ) → RemembersIn x b self.old self.new }
         ensures current { HasCurrent self.new }
     {
@@ -193,8 +207,10 @@ impl<'a, R> FunctionBuilder<'a, R> {
     /// variables without an assignment have none. It takes no memory and can't fail.
     pub fn set_srcloc(&mut self, srcloc: SourceLoc)
         ensures builder { self.new ≡ with_srcloc self.old srcloc }
-        ensures ledger { (calls : List AnsweredCall) → AgreesWithLedger calls self.old → AgreesWithLedger calls self.new }
-        ensures stands { (signature : SignatureShape) (calls : List AnsweredCall) → StandsFor signature calls self.old → StandsFor signature calls self.new }
+        ensures ledger { (calls : List AnsweredCall) → AgreesWithLedger calls self.old
+            → AgreesWithLedger calls self.new }
+        ensures stands { (signature : SignatureShape) (calls : List AnsweredCall)
+            → StandsFor signature calls self.old → StandsFor signature calls self.new }
         ensures remembers { (x b : ℕ) → RemembersIn x b self.old self.new }
         ensures current { HasCurrent self.old → HasCurrent self.new }
     {
@@ -223,8 +239,10 @@ impl<'a, R> FunctionBuilder<'a, R> {
         ensures number { IfOk result (λ b. b ≡ length self.old.func.now.blocks) }
         ensures records { self.new.ctx.now.parts.ssa.records ≡ self.old.ctx.now.parts.ssa.records }
         ensures sealed { SameBlocks self.old.ctx.now.parts.ssa self.new.ctx.now.parts.ssa }
-        ensures predecessors { SamePredecessors self.old.ctx.now.parts.ssa self.new.ctx.now.parts.ssa }
-        ensures tracking { self.new.ctx.now.parts.ssa.tracking ≡ self.old.ctx.now.parts.ssa.tracking }
+        ensures predecessors { SamePredecessors self.old.ctx.now.parts.ssa
+            self.new.ctx.now.parts.ssa }
+        ensures tracking { self.new.ctx.now.parts.ssa.tracking ≡
+            self.old.ctx.now.parts.ssa.tracking }
         ensures untouched { IfOk result (IsUntouched self.new.ctx.now.parts) }
         ensures status { self.new.ctx.now.parts.status ≡ self.old.ctx.now.parts.status }
         ensures variables { self.new.ctx.now.parts.variables ≡ self.old.ctx.now.parts.variables }
@@ -266,24 +284,40 @@ impl<'a, R> FunctionBuilder<'a, R> {
         requires exists { block < length self.old.func.now.blocks }
         requires unsealed { is_yes (sealed_of self.old.ctx.now.parts.ssa block) ≡ false }
         ensures call { IsCall self.old self.new result }
-        ensures function { predecessors_of self.old.ctx.now.parts.ssa block ≡ [] → OnOk result (self.new.func.now ≡ completed self.old.func.now (pending_of (sealed_of self.old.ctx.now.parts.ssa block))) }
-        ensures is_sealing { OnOk result ((told : List ℕ) × IsSealing self.old.func.now self.old.ctx.now.parts.ssa self.new.func.now self.new.ctx.now.parts.ssa block told × Begins self.old.ctx.now.parts self.new.ctx.now.parts told) }
+        ensures function { predecessors_of self.old.ctx.now.parts.ssa block ≡ []
+            → OnOk result (self.new.func.now ≡ completed self.old.func.now (pending_of
+            (sealed_of self.old.ctx.now.parts.ssa block))) }
+        ensures is_sealing { OnOk result ((told : List ℕ)
+            × IsSealing self.old.func.now self.old.ctx.now.parts.ssa self.new.func.now
+            self.new.ctx.now.parts.ssa block told × Begins self.old.ctx.now.parts
+            self.new.ctx.now.parts told) }
         ensures alone { pending_of (sealed_of self.old.ctx.now.parts.ssa block) ≡ []
             → OnOk result (SealsAlone self.old.func.now self.old.ctx.now.parts.ssa
             self.new.func.now self.new.ctx.now.parts.ssa block) }
-        ensures sealed { predecessors_of self.old.ctx.now.parts.ssa block ≡ [] → OnOk result (Seals self.old.ctx.now.parts.ssa self.new.ctx.now.parts.ssa block) }
-        ensures others { OnOk result (SealsAtMost self.old.ctx.now.parts.ssa self.new.ctx.now.parts.ssa block) }
-        ensures records { predecessors_of self.old.ctx.now.parts.ssa block ≡ [] → SameRecords self.old.ctx.now.parts.ssa self.new.ctx.now.parts.ssa }
+        ensures sealed { predecessors_of self.old.ctx.now.parts.ssa block ≡ []
+            → OnOk result (Seals self.old.ctx.now.parts.ssa self.new.ctx.now.parts.ssa block) }
+        ensures others { OnOk result (SealsAtMost self.old.ctx.now.parts.ssa
+            self.new.ctx.now.parts.ssa block) }
+        ensures records { predecessors_of self.old.ctx.now.parts.ssa block ≡ []
+            → SameRecords self.old.ctx.now.parts.ssa self.new.ctx.now.parts.ssa }
         ensures stay { RecordsStay self.old.ctx.now.parts.ssa self.new.ctx.now.parts.ssa }
         ensures variables { self.new.ctx.now.parts.variables ≡ self.old.ctx.now.parts.variables }
-        ensures pools { MayPoolAll (types_of self.old.func.now (pending_of (sealed_of self.old.ctx.now.parts.ssa block))) self.old.func.now.tables self.new.func.now.tables }
-        ensures full { result ≡ Err BuildError.Full → SealingIsFull (Contains (types_of self.old.func.now (pending_of (sealed_of self.old.ctx.now.parts.ssa block)))) self.new.func.now }
+        ensures pools { MayPoolAll (types_of self.old.func.now (pending_of
+            (sealed_of self.old.ctx.now.parts.ssa block))) self.old.func.now.tables
+            self.new.func.now.tables }
+        ensures full { result ≡ Err BuildError.Full
+            → SealingIsFull (Contains (types_of self.old.func.now (pending_of
+            (sealed_of self.old.ctx.now.parts.ssa block)))) self.new.func.now }
         ensures constructs { OnlyConstructs self.old.func.now self.new.func.now }
         ensures told { (name : Name) → IsTold self.old self.new result
             (λ calls. NamesBlock calls name block)
             (λ _. answered (SealBlock name) []) }
-        ensures parameters { (signature : SignatureShape) (calls : List AnsweredCall) → StandsFor signature calls self.new → KeepsNoParameter calls self.new.func.now self.new.ctx.now.parts.ssa }
-        ensures edges_match { (signature : SignatureShape) (calls : List AnsweredCall) → StandsFor signature calls self.new → NoneWaits self.new.ctx.now.parts.ssa → CallersEdgesMatch (script_of calls) → EdgesMatch (view_of self.new.func.now) }
+        ensures parameters { (signature : SignatureShape) (calls : List AnsweredCall)
+            → StandsFor signature calls self.new → KeepsNoParameter calls self.new.func.now
+            self.new.ctx.now.parts.ssa }
+        ensures edges_match { (signature : SignatureShape) (calls : List AnsweredCall)
+            → StandsFor signature calls self.new → NoneWaits self.new.ctx.now.parts.ssa
+            → CallersEdgesMatch (script_of calls) → EdgesMatch (view_of self.new.func.now) }
         ensures grows { OnOk result (Grows self.old.func.now self.new.func.now) }
         ensures remembers { (x b : ℕ) → OnOk result (RemembersIn x b self.old self.new) }
         ensures current { HasCurrent self.old → OnOk result (HasCurrent self.new) }
@@ -308,18 +342,29 @@ impl<'a, R> FunctionBuilder<'a, R> {
     /// Those of [`FunctionBuilder::seal_block`].
     pub fn seal_all_blocks(&mut self) -> Result<(), BuildError>
         ensures call { IsCall self.old self.new result }
-        ensures sealed { OnOk result ((b : ℕ) → b < length self.new.func.now.blocks → is_yes (sealed_of self.new.ctx.now.parts.ssa b) ≡ true) }
-        ensures is_sealing { OnOk result ((told : List ℕ) × IsSealingAll self.old.func.now self.old.ctx.now.parts.ssa self.new.func.now self.new.ctx.now.parts.ssa told × Begins self.old.ctx.now.parts self.new.ctx.now.parts told) }
+        ensures sealed { OnOk result ((b : ℕ) → b < length self.new.func.now.blocks
+            → is_yes (sealed_of self.new.ctx.now.parts.ssa b) ≡ true) }
+        ensures is_sealing { OnOk result ((told : List ℕ)
+            × IsSealingAll self.old.func.now self.old.ctx.now.parts.ssa self.new.func.now
+            self.new.ctx.now.parts.ssa told × Begins self.old.ctx.now.parts self.new.ctx.now.parts
+            told) }
         ensures stay { RecordsStay self.old.ctx.now.parts.ssa self.new.ctx.now.parts.ssa }
         ensures variables { self.new.ctx.now.parts.variables ≡ self.old.ctx.now.parts.variables }
-        ensures pools { MayPoolWaiting self.old.func.now self.old.ctx.now.parts.ssa self.new.func.now.tables }
-        ensures full { result ≡ Err BuildError.Full → SealingIsFull (WaitsWithType self.old.func.now self.old.ctx.now.parts.ssa) self.new.func.now }
+        ensures pools { MayPoolWaiting self.old.func.now self.old.ctx.now.parts.ssa
+            self.new.func.now.tables }
+        ensures full { result ≡ Err BuildError.Full
+            → SealingIsFull (WaitsWithType self.old.func.now self.old.ctx.now.parts.ssa)
+            self.new.func.now }
         ensures constructs { OnlyConstructs self.old.func.now self.new.func.now }
         ensures told { IsTold self.old self.new result
             (λ _. Unit {0})
             (λ _. answered SealAllBlocks []) }
-        ensures parameters { (signature : SignatureShape) (calls : List AnsweredCall) → StandsFor signature calls self.new → KeepsNoParameter calls self.new.func.now self.new.ctx.now.parts.ssa }
-        ensures edges_match { (signature : SignatureShape) (calls : List AnsweredCall) → StandsFor signature calls self.new → CallersEdgesMatch (script_of calls) → OnOk result (EdgesMatch (view_of self.new.func.now)) }
+        ensures parameters { (signature : SignatureShape) (calls : List AnsweredCall)
+            → StandsFor signature calls self.new → KeepsNoParameter calls self.new.func.now
+            self.new.ctx.now.parts.ssa }
+        ensures edges_match { (signature : SignatureShape) (calls : List AnsweredCall)
+            → StandsFor signature calls self.new → CallersEdgesMatch (script_of calls)
+            → OnOk result (EdgesMatch (view_of self.new.func.now)) }
         ensures grows { OnOk result (Grows self.old.func.now self.new.func.now) }
         ensures remembers { (x b : ℕ) → OnOk result (RemembersIn x b self.old self.new) }
         ensures current { HasCurrent self.old → OnOk result (HasCurrent self.new) }
@@ -348,9 +393,11 @@ impl<'a, R> FunctionBuilder<'a, R> {
         requires { IsTrue (is_type ty) }
         ensures call { IsCall self.old self.new result }
         ensures function { self.new.func.now ≡ self.old.func.now }
-        ensures variables { OnOk result (self.new.ctx.now.parts ≡ record self.old.ctx.now.parts { variables = self.old.ctx.now.parts.variables ++ ty ∷ [] }) }
+        ensures variables { OnOk result (self.new.ctx.now.parts ≡ record self.old.ctx.now.parts
+            { variables = self.old.ctx.now.parts.variables ++ ty ∷ [] }) }
         ensures number { IfOk result (λ v. v ≡ length self.old.ctx.now.parts.variables) }
-        ensures full { result ≡ Err BuildError.Full → length self.old.ctx.now.parts.variables ≡ 2 ^ 32 - 1 }
+        ensures full { result ≡ Err BuildError.Full
+            → length self.old.ctx.now.parts.variables ≡ 2 ^ 32 - 1 }
         ensures told { IsTold self.old self.new result
             (λ _. Unit {0})
             (λ variable. answered (DeclareVar ty) (variable ∷ [])) }
@@ -380,11 +427,14 @@ impl<'a, R> FunctionBuilder<'a, R> {
         requires current { HasCurrent self.old }
         requires declared { variable < length self.old.ctx.now.parts.variables }
         requires value_exists { value < length self.old.func.now.values }
-        requires same_type { slice_get self.old.ctx.now.parts.variables variable ≡ Some (value_at self.old.func.now value).ty }
+        requires same_type { slice_get self.old.ctx.now.parts.variables variable ≡ Some
+            (value_at self.old.func.now value).ty }
         ensures call { IsCall self.old self.new result }
         ensures function { self.new.func.now ≡ self.old.func.now }
-        ensures records { IfSome self.old.position (λ block. OnOk result (Records self.old.ctx.now.parts.ssa self.new.ctx.now.parts.ssa variable block value)) }
-        ensures tracks { OnOk result (TracksBinding self.old.ctx.now.parts self.new.ctx.now.parts variable value) }
+        ensures records { IfSome self.old.position (λ block. OnOk result
+            (Records self.old.ctx.now.parts.ssa self.new.ctx.now.parts.ssa variable block value)) }
+        ensures tracks { OnOk result (TracksBinding self.old.ctx.now.parts self.new.ctx.now.parts
+            variable value) }
         ensures sealed { self.new.ctx.now.parts.ssa.blocks ≡ self.old.ctx.now.parts.ssa.blocks }
         ensures status { self.new.ctx.now.parts.status ≡ self.old.ctx.now.parts.status }
         ensures variables { self.new.ctx.now.parts.variables ≡ self.old.ctx.now.parts.variables }
@@ -393,7 +443,8 @@ impl<'a, R> FunctionBuilder<'a, R> {
             (λ calls. NamesValue calls name value)
             (λ _. answered (DefVar variable name) []) }
         ensures grows { OnOk result (Grows self.old.func.now self.new.func.now) }
-        ensures remembers { (x b : ℕ) → (x ≡ variable → self.old.position ≡ Some b → ⊥) → OnOk result (RemembersIn x b self.old self.new) }
+        ensures remembers { (x b : ℕ) → (x ≡ variable → self.old.position ≡ Some b → ⊥)
+            → OnOk result (RemembersIn x b self.old self.new) }
         ensures current { OnOk result (HasCurrent self.new) }
     {
         if self.failed {
@@ -434,25 +485,40 @@ impl<'a, R> FunctionBuilder<'a, R> {
         requires current { HasCurrent self.old }
         requires declared { variable < length self.old.ctx.now.parts.variables }
         ensures call { IsCall self.old self.new result }
-        ensures uses { IfSome self.old.position (λ block. IfOk result (Uses self.old self.new variable block)) }
+        ensures uses { IfSome self.old.position (λ block. IfOk result
+            (Uses self.old self.new variable block)) }
         ensures typed { IfOk result (λ v.
-            slice_get self.old.ctx.now.parts.variables variable ≡ Some (value_at self.new.func.now v).ty) }
-        ensures seals { OnOk result (SealedStays self.old.ctx.now.parts.ssa self.new.ctx.now.parts.ssa) }
-        ensures is_use { (ty : «Type») → slice_get self.old.ctx.now.parts.variables variable ≡ Some ty → IfSome self.old.position (λ block. IfOk result (λ value. (told : List ℕ) × IsUse (inserted_in self.old.func.now block) self.old.ctx.now.parts.ssa self.new.func.now self.new.ctx.now.parts.ssa variable ty block value told × Begins self.old.ctx.now.parts self.new.ctx.now.parts (block ∷ told))) }
-        ensures status { (calls : List AnsweredCall) → AgreesWithLedger calls self.old → IfSome self.old.position (λ block. OnOk result (SetsStatus self.old.ctx.now.parts self.new.ctx.now.parts block (begun (status_of self.old.ctx.now.parts block)))) }
+            slice_get self.old.ctx.now.parts.variables variable
+            ≡ Some (value_at self.new.func.now v).ty) }
+        ensures seals { OnOk result (SealedStays self.old.ctx.now.parts.ssa
+            self.new.ctx.now.parts.ssa) }
+        ensures is_use { (ty : «Type») → slice_get self.old.ctx.now.parts.variables variable ≡ Some
+            ty → IfSome self.old.position (λ block. IfOk result (λ value. (told : List ℕ)
+            × IsUse (inserted_in self.old.func.now block) self.old.ctx.now.parts.ssa
+            self.new.func.now self.new.ctx.now.parts.ssa variable ty block value told
+            × Begins self.old.ctx.now.parts self.new.ctx.now.parts (block ∷ told))) }
+        ensures status { (calls : List AnsweredCall) → AgreesWithLedger calls self.old
+            → IfSome self.old.position (λ block. OnOk result
+            (SetsStatus self.old.ctx.now.parts self.new.ctx.now.parts block (begun
+            (status_of self.old.ctx.now.parts block)))) }
         ensures variables { self.new.ctx.now.parts.variables ≡ self.old.ctx.now.parts.variables }
-        ensures pools { (ty : «Type») → slice_get self.old.ctx.now.parts.variables variable ≡ Some ty → MayPool ty self.old.func.now.tables self.new.func.now.tables }
-        ensures full { (ty : «Type») → slice_get self.old.ctx.now.parts.variables variable ≡ Some ty → result ≡ Err BuildError.Full → UseIsFull ty self.new.func.now }
+        ensures pools { (ty : «Type») → slice_get self.old.ctx.now.parts.variables variable ≡ Some
+            ty → MayPool ty self.old.func.now.tables self.new.func.now.tables }
+        ensures full { (ty : «Type») → slice_get self.old.ctx.now.parts.variables variable ≡ Some ty
+            → result ≡ Err BuildError.Full → UseIsFull ty self.new.func.now }
         ensures constructs { IfSome self.old.position (λ block. result ≡ Err BuildError.Full →
             OnlyConstructs (inserted_in self.old.func.now block) self.new.func.now) }
         ensures told { IsTold self.old self.new result
             (λ _. Unit {0})
             (λ value. answered (UseVar variable) (value ∷ [])) }
-        ensures parameters { (signature : SignatureShape) (calls : List AnsweredCall) → StandsFor signature calls self.new → KeepsNoParameter calls self.new.func.now self.new.ctx.now.parts.ssa }
+        ensures parameters { (signature : SignatureShape) (calls : List AnsweredCall)
+            → StandsFor signature calls self.new → KeepsNoParameter calls self.new.func.now
+            self.new.ctx.now.parts.ssa }
         ensures exists { IfOk result (λ v. v < length self.new.func.now.values) }
         ensures grows { OnOk result (Grows self.old.func.now self.new.func.now) }
         ensures remembers { (x b : ℕ) → OnOk result (RemembersIn x b self.old self.new) }
-        ensures has_record { IfSome self.old.position (λ block. IfOk result (HasRecordIn self.new variable block)) }
+        ensures has_record { IfSome self.old.position (λ block. IfOk result
+            (HasRecordIn self.new variable block)) }
         ensures current { OnOk result (HasCurrent self.new) }
     {
         if self.failed {
@@ -482,7 +548,8 @@ pub(crate) fn begin_block(
 ) -> Result<(), BuildError>
     requires { block < length func.old.blocks }
     ensures function { OnOk result (func.new ≡ inserted_in func.old block) }
-    ensures status { OnOk result (SetsStatus ctx.old ctx.new block (begun (status_of ctx.old block))) }
+    ensures status { OnOk result (SetsStatus ctx.old ctx.new block (begun
+        (status_of ctx.old block))) }
     ensures tables { func.new.tables ≡ func.old.tables }
     ensures ssa { ctx.new.ssa ≡ ctx.old.ssa }
     ensures names { NamesExist func.old ctx.old.ssa → NamesExist func.new ctx.new.ssa }
@@ -507,7 +574,9 @@ fn use_variable(
     requires exists { block < length func.old.blocks }
     requires named { NamesExist func.old ctx.old.ssa }
     ensures uses { IfOk result (UsesIn func.old ctx.old func.new ctx.new variable ty block) }
-    ensures is_use { IfOk result (λ value. (told : List ℕ) × IsUse (inserted_in func.old block) ctx.old.ssa func.new ctx.new.ssa variable ty block value told × Begins ctx.old ctx.new (block ∷ told)) }
+    ensures is_use { IfOk result (λ value. (told : List ℕ)
+        × IsUse (inserted_in func.old block) ctx.old.ssa func.new ctx.new.ssa variable ty block
+        value told × Begins ctx.old ctx.new (block ∷ told)) }
     ensures names { NamesExist func.new ctx.new.ssa }
     ensures exists { IfOk result (λ value. value < length func.new.values) }
     ensures looks_once { LooksOnce ctx.old.ssa → LooksOnce ctx.new.ssa }

@@ -235,17 +235,21 @@ fn append(
 ) -> Result<Inst, BuildError>
     requires block_exists { block < length func.old.blocks }
     requires named { NamesExist func.old ctx.old.ssa }
-    requires operands_exist { EachIndex (operands shape) (λ k. slice_index (operands shape) k < length func.old.values) }
+    requires operands_exist { EachIndex (operands shape) (λ k. slice_index
+        (operands shape) k < length func.old.values) }
     requires contexts_exist { All (ValueExists func.old) (contexts shape) }
     requires edges { All (CanLeadIn func.old ctx.old) (destinations shape) }
     requires entries_exist { All (EntryExists func.old.tables) (entries_of shape) }
-    ensures appends { IfOk result (AppendsIn srcloc func.old ctx.old func.new ctx.new block shape ctrl_type) }
-    ensures declares { IfOk result (λ inst. IsDeclared ctx.old.ssa inst (targets (destinations shape)) ctx.new.ssa) }
+    ensures appends { IfOk result (AppendsIn srcloc func.old ctx.old func.new ctx.new block shape
+        ctrl_type) }
+    ensures declares { IfOk result (λ inst. IsDeclared ctx.old.ssa inst (targets
+        (destinations shape)) ctx.new.ssa) }
     ensures ssa { is_branch shape ≡ false → ctx.new.ssa ≡ ctx.old.ssa }
     ensures names { NamesExist func.new ctx.new.ssa }
     ensures looks_once { LooksOnce ctx.old.ssa → LooksOnce ctx.new.ssa }
     ensures variables { SameVariables ctx.old ctx.new }
-    ensures full { result ≡ Err BuildError.Full → HasNoRoom func.old (count_of_results func.old.tables shape) }
+    ensures full { result ≡ Err BuildError.Full → HasNoRoom func.old
+        (count_of_results func.old.tables shape) }
     ensures never_failed { result ≢ Err BuildError.Failed }
 {
     begin_block(func, ctx, block)?;

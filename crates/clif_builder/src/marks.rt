@@ -19,7 +19,8 @@ impl<'a, R> FunctionBuilder<'a, R> {
     /// An assignment that [`FunctionBuilder::try_def_var`] refuses is none. After an error of an earlier call the answer is
     /// false. It takes no memory.
     pub fn is_untouched(&self, variable: Variable) -> bool
-        ensures exact { self.now.failed ≡ false → result ≡ is_untouched self.now.ctx.now.parts variable }
+        ensures exact { self.now.failed ≡ false → result ≡ is_untouched self.now.ctx.now.parts
+            variable }
         ensures failed { IsTrue self.now.failed → result ≡ false }
         ensures unused { IsTrue result → IsUnused self.now.ctx.now.parts variable }
         ensures ledger { (calls : List AnsweredCall) → AgreesWithLedger calls self.now
@@ -46,7 +47,8 @@ impl<'a, R> FunctionBuilder<'a, R> {
         requires fits { VariableFits self.old.ctx.now.parts variable }
         requires unused { IsUnused self.old.ctx.now.parts variable }
         ensures marks { MarksVariable self.old self.new result variable }
-        ensures told { IsTold self.old self.new result (λ calls. Unit {0}) (λ u. answered (NeedStackMap (OfVariable variable)) []) }
+        ensures told { IsTold self.old self.new result (λ calls. Unit {0}) (λ u. answered
+            (NeedStackMap (OfVariable variable)) []) }
     {
         if self.failed {
             return Err(BuildError::Failed);
@@ -66,7 +68,9 @@ impl<'a, R> FunctionBuilder<'a, R> {
     pub fn declare_value_needs_stack_map(&mut self, value: Value) -> Result<(), BuildError>
         requires { ValueFits self.old value }
         ensures records { RecordsValue self.old self.new result value }
-        ensures told { (name : Name) → IsTold self.old self.new result (λ calls. NamesValue calls name value) (λ u. answered (NeedStackMap (OfValue name)) []) }
+        ensures told { (name : Name) → IsTold self.old self.new result
+            (λ calls. NamesValue calls name value) (λ u. answered (NeedStackMap
+            (OfValue name)) []) }
     {
         if self.failed {
             return Err(BuildError::Failed);

@@ -75,7 +75,8 @@ fn function_found(
     function: &ImportedFunction,
 ) -> Result<NewEntry, CallError>
     ensures { Finds
-        (λ found. entry_new found ≡ function_in (numbers_at builder.now.func.now answers.now) function.now)
+        (λ found. entry_new found ≡ function_in (numbers_at builder.now.func.now answers.now)
+        function.now)
         (acceptance.can_make builder.now.func.now.tables
         (function_in (numbers_at builder.now.func.now answers.now) function.now)) result }
 {

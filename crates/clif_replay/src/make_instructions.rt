@@ -36,7 +36,8 @@ pub(crate) fn append(
     ty: Type,
 ) -> Result<Inst, BuildError>
     requires current { HasCurrent builder.old }
-    requires operands_exist { EachIndex (operands shape) (λ k. slice_index (operands shape) k < length builder.old.func.now.values) }
+    requires operands_exist { EachIndex (operands shape) (λ k. slice_index
+        (operands shape) k < length builder.old.func.now.values) }
     requires contexts_exist { All (ValueExists builder.old.func.now) (contexts shape) }
     requires edges { All (CanLead builder.old) (destinations shape) }
     requires entries_exist { All (EntryExists builder.old.func.now.tables) (entries_of shape) }

@@ -200,7 +200,8 @@ fn help(
     call: &MemoryCall,
     operands: &Operands,
 ) -> Result<Answer, BuildError>
-    requires { MayHelp builder.old config (operation_in call.now) (values_in call.now operands.now) }
+    requires { MayHelp builder.old config (operation_in call.now)
+        (values_in call.now operands.now) }
     ensures called { CallsHelper config (operation_in call.now) (values_in call.now operands.now)
         builder.old builder.new result }
     ensures sized { IsSized (operation_in call.now) }

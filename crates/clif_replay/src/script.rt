@@ -311,7 +311,8 @@ fn make_calls(
         → verdict_on_call_attempts (attempts_of config builder.old.func.now.signature calls.now)
         ≡ acceptance.Refused i }
     ensures table_full { result ≡ Err ReplayError.Full
-        → IsStoppedByTable config calls.now builder.old.func.now.name builder.old.func.now.signature }
+        → IsStoppedByTable config calls.now builder.old.func.now.name
+        builder.old.func.now.signature }
 {
     ledger_is_read_by_number();
     let mut answers = Vec::new(alloc);

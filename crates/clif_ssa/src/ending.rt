@@ -62,8 +62,10 @@ pub(crate) fn pass_arguments(
     values: &[Value],
 ) -> Result<(), BuildError>
     requires count { length values.now ≡ length branches.now }
-    requires branches_exist { EachIndex branches.now (λ k. slice_index branches.now k < length func.old.insts) }
-    requires values_exist { EachIndex values.now (λ k. slice_index values.now k < length func.old.values) }
+    requires branches_exist { EachIndex branches.now
+        (λ k. slice_index branches.now k < length func.old.insts) }
+    requires values_exist { EachIndex values.now (λ k. slice_index values.now k < length
+        func.old.values) }
     ensures ok { OnOk result (func.new ≡ with_arguments func.old block branches.now values.now) }
     ensures more { HasMore func.old func.new }
     ensures constructs { OnlyConstructs func.old func.new }
@@ -90,9 +92,12 @@ pub(crate) fn end_look_up(
 ) -> Result<Ending, BuildError>
     requires is_parameter { param_home func.old param ≡ Some home }
     requires count { length results.now ≡ length predecessors.now }
-    requires branches_exist { EachIndex predecessors.now (λ k. slice_index predecessors.now k < length func.old.insts) }
-    requires values_exist { EachIndex results.now (λ k. slice_index results.now k < length func.old.values) }
-    ensures ends { IfOk result (λ e. EndsLookUp param home block predecessors.now results.now func.old func.new e.value (option_to_list e.zero)) }
+    requires branches_exist { EachIndex predecessors.now
+        (λ k. slice_index predecessors.now k < length func.old.insts) }
+    requires values_exist { EachIndex results.now (λ k. slice_index results.now k < length
+        func.old.values) }
+    ensures ends { IfOk result (λ e. EndsLookUp param home block predecessors.now results.now
+        func.old func.new e.value (option_to_list e.zero)) }
     ensures exists { IfOk result (λ e. e.value < length func.new.values) }
     ensures more { HasMore func.old func.new }
     ensures constructs { OnlyConstructs func.old func.new }
@@ -128,9 +133,14 @@ fn end_or_stay(
 ) -> Result<Ending, BuildError>
     requires param_exists { param < length func.old.values }
     requires count { length results.now ≡ length predecessors.now }
-    requires branches_exist { EachIndex predecessors.now (λ k. slice_index predecessors.now k < length func.old.insts) }
-    requires values_exist { EachIndex results.now (λ k. slice_index results.now k < length func.old.values) }
-    ensures ends { IfOk result (λ e. IsNoParameter param func.old func.new e.value (option_to_list e.zero) ⊎ ((home : ℕ) × (param_home func.old param ≡ Some home) × EndsLookUp param home block predecessors.now results.now func.old func.new e.value (option_to_list e.zero))) }
+    requires branches_exist { EachIndex predecessors.now
+        (λ k. slice_index predecessors.now k < length func.old.insts) }
+    requires values_exist { EachIndex results.now (λ k. slice_index results.now k < length
+        func.old.values) }
+    ensures ends { IfOk result (λ e. IsNoParameter param func.old func.new e.value
+        (option_to_list e.zero) ⊎ ((home : ℕ) × (param_home func.old param ≡ Some home)
+        × EndsLookUp param home block predecessors.now results.now func.old func.new e.value
+        (option_to_list e.zero))) }
     ensures exists { IfOk result (λ e. e.value < length func.new.values) }
     ensures more { HasMore func.old func.new }
     ensures constructs { OnlyConstructs func.old func.new }
@@ -159,10 +169,15 @@ pub(crate) fn finish_look_up(
 ) -> Result<(), BuildError>
     requires count { length predecessors.now ≤ length look_up.old.results }
     requires param_exists { param < length func.old.values }
-    requires branches_exist { EachIndex predecessors.now (λ k. slice_index predecessors.now k < length func.old.insts) }
-    requires values_exist { EachIndex look_up.old.results (λ k. slice_index look_up.old.results k < length func.old.values) }
-    ensures ok { (s : SsaState) → predecessors_of s block ≡ predecessors.now → OnOk result (FinishesLookUp param block (stage func.old s look_up.old) (stage func.new s look_up.new)) }
-    ensures exist { OnOk result (EachIndex look_up.new.results (λ k. slice_index look_up.new.results k < length func.new.values)) }
+    requires branches_exist { EachIndex predecessors.now
+        (λ k. slice_index predecessors.now k < length func.old.insts) }
+    requires values_exist { EachIndex look_up.old.results
+        (λ k. slice_index look_up.old.results k < length func.old.values) }
+    ensures ok { (s : SsaState) → predecessors_of s block ≡ predecessors.now
+        → OnOk result (FinishesLookUp param block (stage func.old s look_up.old)
+        (stage func.new s look_up.new)) }
+    ensures exist { OnOk result (EachIndex look_up.new.results
+        (λ k. slice_index look_up.new.results k < length func.new.values)) }
     ensures more { HasMore func.old func.new }
     ensures constructs { OnlyConstructs func.old func.new }
     ensures tells { OnOk result (TellsMore func.old func.new look_up.old.zeros look_up.new.zeros) }

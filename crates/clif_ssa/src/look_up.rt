@@ -38,9 +38,11 @@ impl SsaTables {
         requires named { NamesExist func.old self.old }
         requires no_page { has_no_page ≡ true
             → HasNoPage self.old.records variable (page_number block) }
-        ensures looks { OnOk result (LooksUp variable ty block (stage func.old self.old look_up.old) (stage func.new self.new look_up.new)) }
+        ensures looks { OnOk result (LooksUp variable ty block (stage func.old self.old look_up.old)
+            (stage func.new self.new look_up.new)) }
         ensures keeps { StepKeeps variable ty func.old self.old func.new self.new }
-        ensures tells { OnOk result (TellsMore func.old func.new look_up.old.zeros look_up.new.zeros) }
+        ensures tells { OnOk result (TellsMore func.old func.new look_up.old.zeros
+            look_up.new.zeros) }
         ensures ends { StepEnds (UseIsFull ty) func.new result }
     {
         func.law_consistent();
@@ -63,9 +65,11 @@ impl SsaTables {
     ) -> Result<Value, BuildError>
         requires named { NamesExist func.old self.old }
         requires calls_fit { CallsFit ty func.old self.old look_up.old }
-        ensures made { IfOk result (λ v. MakesAll variable ty (stage func.old self.old look_up.old) v (stage func.new self.new look_up.new)) }
+        ensures made { IfOk result (λ v. MakesAll variable ty
+            (stage func.old self.old look_up.old) v (stage func.new self.new look_up.new)) }
         ensures keeps { StepKeeps variable ty func.old self.old func.new self.new }
-        ensures tells { OnOk result (TellsMore func.old func.new look_up.old.zeros look_up.new.zeros) }
+        ensures tells { OnOk result (TellsMore func.old func.new look_up.old.zeros
+            look_up.new.zeros) }
         ensures exists { IfOk result (λ v. v < length func.new.values) }
         ensures ends { StepEnds (UseIsFull ty) func.new result }
     {
@@ -88,10 +92,12 @@ impl SsaTables {
     ) -> Result<(), BuildError>
         requires named { NamesExist func.old self.old }
         requires calls_fit { CallsFit ty func.old self.old (with_call call look_up.old) }
-        ensures made { OnOk result (MakesCall variable ty (stage func.old self.old (with_call call look_up.old)) (stage func.new self.new look_up.new)) }
+        ensures made { OnOk result (MakesCall variable ty (stage func.old self.old
+            (with_call call look_up.old)) (stage func.new self.new look_up.new)) }
         ensures fits { OnOk result (CallsFit ty func.new self.new look_up.new) }
         ensures keeps { StepKeeps variable ty func.old self.old func.new self.new }
-        ensures tells { OnOk result (TellsMore func.old func.new look_up.old.zeros look_up.new.zeros) }
+        ensures tells { OnOk result (TellsMore func.old func.new look_up.old.zeros
+            look_up.new.zeros) }
         ensures ends { StepEnds (UseIsFull ty) func.new result }
     {
         match call {
@@ -121,12 +127,17 @@ impl SsaTables {
         requires named { NamesExist func.old self.old }
         requires param_exists { waiting.param < length func.old.values }
         requires idle { (look_up.old.calls ≡ []) × (look_up.old.results ≡ []) }
-        ensures completes { OnOk result (CompletesParameter waiting.variable (value_at func.old waiting.param).ty waiting.param block (stage func.old self.old look_up.old) (stage func.new self.new look_up.new)) }
+        ensures completes { OnOk result (CompletesParameter waiting.variable
+            (value_at func.old waiting.param).ty waiting.param block
+            (stage func.old self.old look_up.old) (stage func.new self.new look_up.new)) }
         ensures idle { OnOk result ((look_up.new.calls ≡ []) × (look_up.new.results ≡ [])) }
         ensures leaves { StepLeaves func.old self.old func.new self.new }
-        ensures pools { StepPools ((value_at func.old waiting.param).ty ∷ []) func.old self.old func.new self.new }
-        ensures tells { OnOk result (TellsMore func.old func.new look_up.old.zeros look_up.new.zeros) }
-        ensures looks_once { (rest : List Pending) → ToComplete self.old block (waiting ∷ rest) → ToComplete self.new block rest }
+        ensures pools { StepPools ((value_at func.old waiting.param).ty ∷ []) func.old self.old
+            func.new self.new }
+        ensures tells { OnOk result (TellsMore func.old func.new look_up.old.zeros
+            look_up.new.zeros) }
+        ensures looks_once { (rest : List Pending) → ToComplete self.old block (waiting ∷ rest)
+            → ToComplete self.new block rest }
         ensures ends { StepEnds (UseIsFull (value_at func.old waiting.param).ty) func.new result }
     {
         let Pending { variable, param } = waiting;
@@ -146,14 +157,19 @@ impl SsaTables {
         look_up: &mut LookUp,
     ) -> Result<(), BuildError>
         requires named { NamesExist func.old self.old }
-        requires params_exist { (p : Pending) → Contains waiting.now p → p.param < length func.old.values }
+        requires params_exist { (p : Pending) → Contains waiting.now p
+            → p.param < length func.old.values }
         requires idle { (look_up.old.calls ≡ []) × (look_up.old.results ≡ []) }
-        ensures completes { OnOk result (CompletesAll block waiting.now (stage func.old self.old look_up.old) (stage func.new self.new look_up.new)) }
+        ensures completes { OnOk result (CompletesAll block waiting.now
+            (stage func.old self.old look_up.old) (stage func.new self.new look_up.new)) }
         ensures leaves { StepLeaves func.old self.old func.new self.new }
-        ensures pools { StepPools (types_of func.old waiting.now) func.old self.old func.new self.new }
-        ensures tells { OnOk result (TellsMore func.old func.new look_up.old.zeros look_up.new.zeros) }
+        ensures pools { StepPools (types_of func.old waiting.now) func.old self.old func.new
+            self.new }
+        ensures tells { OnOk result (TellsMore func.old func.new look_up.old.zeros
+            look_up.new.zeros) }
         ensures looks_once { ToComplete self.old block waiting.now → LooksOnce self.new }
-        ensures ends { StepEnds (SealingIsFull (Contains (types_of func.old waiting.now))) func.new result }
+        ensures ends { StepEnds (SealingIsFull (Contains
+            (types_of func.old waiting.now))) func.new result }
     {
         for pending in waiting.iter() {
             self.complete_parameter(func, block, *pending, passed, look_up)?;

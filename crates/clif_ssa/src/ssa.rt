@@ -110,10 +110,12 @@ impl SSABuilder {
         ensures blocks { (b : ℕ) → sealed_of self.new b ≡ sealed_of self.old b }
         ensures predecessors { SamePredecessors self.old self.new }
         ensures tracking { self.new.tracking ≡ self.old.tracking }
-        ensures described { (own : Own) (f : Body) (tables : Blocks) → Describes own f self.old [] tables → Describes own f self.new [] tables }
+        ensures described { (own : Own) (f : Body) (tables : Blocks)
+            → Describes own f self.old [] tables → Describes own f self.new [] tables }
         ensures remembers { (f : Body) (x b : ℕ) → Remembers x b f self.old f self.new }
         ensures looks_once { LooksOnce self.old → LooksOnce self.new }
-        ensures structured { (types : VariableTypes) (own : Own) (f : Body) → Structured types own f self.old [] → Structured types own f self.new [] }
+        ensures structured { (types : VariableTypes) (own : Own) (f : Body)
+            → Structured types own f self.old [] → Structured types own f self.new [] }
         ensures known { OnOk result (block < length self.new.blocks) }
         ensures no_more { KnowsNoMore self.old self.new (block + 1) }
         ensures only_memory { OnErr result (result ≡ Err BuildError.Memory) }
@@ -134,9 +136,17 @@ impl SSABuilder {
         ensures records { self.new.records ≡ self.old.records }
         ensures blocks { SameBlocks self.old self.new }
         ensures tracking { self.new.tracking ≡ self.old.tracking }
-        ensures described { (own : Own) (f : Body) (tables : Blocks) → inst < length f.insts → has_entry f.layout ≡ true → ((j : ℕ) → Contains (predecessors_of self.old block) j → branch_block f j ≢ branch_block f inst) → PassesOwn own f block inst → DescribesSoundly own f self.old tables → OnOk result (DescribesSoundly own f self.new tables) }
+        ensures described { (own : Own) (f : Body) (tables : Blocks) → inst < length f.insts
+            → has_entry f.layout ≡ true → ((j : ℕ) → Contains (predecessors_of self.old block) j
+            → branch_block f j ≢ branch_block f inst) → PassesOwn own f block inst
+            → DescribesSoundly own f self.old tables
+            → OnOk result (DescribesSoundly own f self.new tables) }
         ensures looks_once { LooksOnce self.old → LooksOnce self.new }
-        ensures structured { (types : VariableTypes) (own : Own) (f : Body) → inst < length f.insts → ((j : ℕ) → Contains (predecessors_of self.old block) j → j ≢ inst) → ((k : ℕ) → edge_target f inst k ≡ Some block → args_of (slice_get (edges_at f inst) k) ≡ own.passed inst k) → Structured types own f self.old [] → OnOk result (Structured types own f self.new []) }
+        ensures structured { (types : VariableTypes) (own : Own) (f : Body) → inst < length f.insts
+            → ((j : ℕ) → Contains (predecessors_of self.old block) j → j ≢ inst) → ((k : ℕ)
+            → edge_target f inst k ≡ Some block → args_of (slice_get
+            (edges_at f inst) k) ≡ own.passed inst k) → Structured types own f self.old []
+            → OnOk result (Structured types own f self.new []) }
         ensures no_more { KnowsNoMore self.old self.new (block + 1) }
         ensures only_memory { OnErr result (result ≡ Err BuildError.Memory) }
     {
@@ -152,9 +162,11 @@ impl SSABuilder {
         ensures records { self.new.records ≡ self.old.records }
         ensures blocks { SameBlocks self.old self.new }
         ensures tracking { self.new.tracking ≡ self.old.tracking }
-        ensures described { (own : Own) (f : Body) (tables : Blocks) → DescribesSoundly own f self.old tables → DescribesSoundly own f self.new tables }
+        ensures described { (own : Own) (f : Body) (tables : Blocks)
+            → DescribesSoundly own f self.old tables → DescribesSoundly own f self.new tables }
         ensures looks_once { LooksOnce self.old → LooksOnce self.new }
-        ensures structured { (types : VariableTypes) (own : Own) (f : Body) → Structured types own f self.old [] → Structured types own f self.new [] }
+        ensures structured { (types : VariableTypes) (own : Own) (f : Body)
+            → Structured types own f self.old [] → Structured types own f self.new [] }
         ensures no_more { length self.new.blocks ≤ length self.old.blocks }
     {
         self.tables.blocks.remove_predecessor(block, inst);
@@ -187,8 +199,16 @@ impl SSABuilder {
         ensures records { self.new.records ≡ self.old.records }
         ensures blocks { SameBlocks self.old self.new }
         ensures tracking { self.new.tracking ≡ self.old.tracking }
-        ensures described { (own : Own) (tables : Blocks) → PassesOwn own func.old from inst → PassesOwn own func.old to inst → ((j : ℕ) → Contains (predecessors_of self.old to) j → j ≢ inst → branch_block func.old j ≢ branch_block func.old inst) → DescribesSoundly own func.old self.old tables → OnOk result (DescribesSoundly own func.new self.new tables) }
-        ensures structured { (types : VariableTypes) (own : Own) → ((k : ℕ) → edge_target func.old inst k ≡ Some to → args_of (slice_get (edges_at func.old inst) k) ≡ own.passed inst k) → Structured types own func.old self.old [] → OnOk result (Structured types own func.new self.new []) }
+        ensures described { (own : Own) (tables : Blocks) → PassesOwn own func.old from inst
+            → PassesOwn own func.old to inst → ((j : ℕ) → Contains (predecessors_of self.old to) j
+            → j ≢ inst → branch_block func.old j ≢ branch_block func.old inst)
+            → DescribesSoundly own func.old self.old tables
+            → OnOk result (DescribesSoundly own func.new self.new tables) }
+        ensures structured { (types : VariableTypes) (own : Own) → ((k : ℕ)
+            → edge_target func.old inst k ≡ Some to
+            → args_of (slice_get (edges_at func.old inst) k) ≡ own.passed inst k)
+            → Structured types own func.old self.old []
+            → OnOk result (Structured types own func.new self.new []) }
         ensures looks_once { LooksOnce self.old → LooksOnce self.new }
         ensures no_more { KnowsNoMore self.old self.new (to + 1) }
         ensures only_memory { OnErr result (result ≡ Err BuildError.Memory) }
@@ -245,7 +265,8 @@ impl SSABuilder {
     /// A new branch with several edges to one block is declared there once, and so is known by this at each
     /// of its later edges.
     pub fn is_last_predecessor(&self, block: Block, inst: Inst) -> bool
-        ensures { IsTrue result ↔ (slice_get (predecessors_of self.now block) (length (predecessors_of self.now block) - 1) ≡ Some inst) }
+        ensures { IsTrue result ↔ (slice_get (predecessors_of self.now block) (length
+            (predecessors_of self.now block) - 1) ≡ Some inst) }
     {
         match self.tables.blocks.predecessors(block).last() {
             Some(last) => *last == inst,
@@ -289,14 +310,22 @@ impl SSABuilder {
     ) -> Result<(), BuildError>
         ensures ok { OnOk result (Records self.old self.new variable block value) }
         ensures err { OnErr result (SameRecords self.old self.new) }
-        ensures tracking { OnOk result (self.new.tracking ≡ with_binding self.old.tracking variable value) }
+        ensures tracking { OnOk result (self.new.tracking ≡ with_binding self.old.tracking variable
+            value) }
         ensures refused { OnErr result (MayBind self.old self.new variable value) }
         ensures blocks { self.new.blocks ≡ self.old.blocks }
         ensures lookups { SameLookups self.old self.new }
-        ensures keeps { (own : Own) (f : Body) (tables : Blocks) (n : ℕ) → DescribesSoundly own f self.old tables → IsOpen f self.old block → tables.answer n ≡ value → (tables.naming n).home ≢ start → tables.assigned (last_place tables block) variable ≡ None → OnOk result (DescribesSoundly own f self.new (with_write tables block variable n)) }
-        ensures remembers { (f : Body) (x b : ℕ) → (x ≡ variable → b ≡ block → ⊥) → OnOk result (Remembers x b f self.old f self.new) }
+        ensures keeps { (own : Own) (f : Body) (tables : Blocks) (n : ℕ)
+            → DescribesSoundly own f self.old tables → IsOpen f self.old block
+            → tables.answer n ≡ value → (tables.naming n).home ≢ start
+            → tables.assigned (last_place tables block) variable ≡ None
+            → OnOk result (DescribesSoundly own f self.new (with_write tables block variable n)) }
+        ensures remembers { (f : Body) (x b : ℕ) → (x ≡ variable → b ≡ block → ⊥)
+            → OnOk result (Remembers x b f self.old f self.new) }
         ensures looks_once { LooksOnce self.old → LooksOnce self.new }
-        ensures structured { (types : VariableTypes) (own : Own) (f : Body) → HasType f value (types variable) → Structured types own f self.old [] → OnOk result (Structured types own f self.new []) }
+        ensures structured { (types : VariableTypes) (own : Own) (f : Body)
+            → HasType f value (types variable) → Structured types own f self.old []
+            → OnOk result (Structured types own f self.new []) }
         ensures only_memory { OnErr result (result ≡ Err BuildError.Memory) }
     {
         self.tables.record(variable, block, value)
@@ -309,7 +338,8 @@ impl SSABuilder {
     ///
     /// `Memory`, where memory is refused. Nothing has changed then.
     pub fn mark_var_needs_stack_map(&mut self, variable: Variable) -> Result<(), BuildError>
-        ensures ok { OnOk result (self.new ≡ record self.old { tracking = with_mark self.old.tracking variable }) }
+        ensures ok { OnOk result (self.new ≡ record self.old
+            { tracking = with_mark self.old.tracking variable }) }
         ensures err { OnErr result (self.new ≡ self.old) }
         ensures only_memory { OnErr result (result ≡ Err BuildError.Memory) }
     {
@@ -353,36 +383,64 @@ impl SSABuilder {
     ) -> Result<(Value, SideEffects), BuildError>
         requires exists { block < length func.old.blocks }
         requires named { Named func.old self.old }
-        ensures known { IfSome (record_of self.old variable block) (λ v. OnOk result ((func.new ≡ func.old) × (self.new ≡ self.old)) × IfOk result (λ r. (r.0 ≡ v) × (r.1.instructions_added_to_blocks.items ≡ []))) }
-        ensures waits { record_of self.old variable block ≡ None → is_yes (sealed_of self.old block) ≡ false → OnOk result (Waits self.old self.new func.old func.new variable ty block) × IfOk result (λ r. (r.0 ≡ length func.old.values) × (r.1.instructions_added_to_blocks.items ≡ [])) }
+        ensures known { IfSome (record_of self.old variable block) (λ v. OnOk result
+            ((func.new ≡ func.old) × (self.new ≡ self.old)) × IfOk result (λ r. (r.0 ≡ v)
+            × (r.1.instructions_added_to_blocks.items ≡ []))) }
+        ensures waits { record_of self.old variable block ≡ None
+            → is_yes (sealed_of self.old block) ≡ false
+            → OnOk result (Waits self.old self.new func.old func.new variable ty block)
+            × IfOk result (λ r. (r.0 ≡ length func.old.values)
+            × (r.1.instructions_added_to_blocks.items ≡ [])) }
         ensures zero { record_of self.old variable block ≡ None
             → is_yes (sealed_of self.old block) ≡ true → predecessors_of self.old block ≡ []
             → OnOk result (Zeroes self.old self.new func.old func.new variable ty block)
             × IfOk result (λ r. (r.0 ≡ length func.old.values + 1 + steps_before ty)
             × (r.1.instructions_added_to_blocks.items ≡ block ∷ [])) }
-        ensures counts_none { record_of self.old variable block ≡ None → is_yes (sealed_of self.old block) ≡ false → OnOk result (SameLookups self.old self.new) }
-        ensures counts_one { record_of self.old variable block ≡ None → is_yes (sealed_of self.old block) ≡ true → predecessors_of self.old block ≡ [] → OnOk result (CountsLookup self.old self.new variable block) }
-        ensures looks { record_of self.old variable block ≡ None → is_yes (sealed_of self.old block) ≡ true → predecessors_of self.old block ≢ [] → IfOk result (λ r. UsesVariable variable ty block (stage func.old self.old no_look_up) r.0 (stage func.new self.new (found r.0 r.1.instructions_added_to_blocks.items))) }
-        ensures keeps { (own : Own) (tables : Blocks) → DescribesSoundly own func.old self.old tables → IfOk result (λ r. KeepsAndKnows own tables func.new self.new block variable r.0) }
+        ensures counts_none { record_of self.old variable block ≡ None
+            → is_yes (sealed_of self.old block) ≡ false
+            → OnOk result (SameLookups self.old self.new) }
+        ensures counts_one { record_of self.old variable block ≡ None
+            → is_yes (sealed_of self.old block) ≡ true → predecessors_of self.old block ≡ []
+            → OnOk result (CountsLookup self.old self.new variable block) }
+        ensures looks { record_of self.old variable block ≡ None
+            → is_yes (sealed_of self.old block) ≡ true → predecessors_of self.old block ≢ []
+            → IfOk result (λ r. UsesVariable variable ty block
+            (stage func.old self.old no_look_up) r.0 (stage func.new self.new
+            (found r.0 r.1.instructions_added_to_blocks.items))) }
+        ensures keeps { (own : Own) (tables : Blocks)
+            → DescribesSoundly own func.old self.old tables
+            → IfOk result (λ r. KeepsAndKnows own tables func.new self.new block variable r.0) }
         ensures recorded { IfOk result (λ r. HasRecordOf func.new self.new variable block r.0) }
-        ensures remembers { (x b : ℕ) → OnOk result (Remembers x b func.old self.old func.new self.new) }
-        ensures parameters { IsLocal self.old variable block → is_yes (sealed_of self.old block) ≡ true → (b : ℕ) → OnOk result ((block_at func.new b).params ≡ (block_at func.old b).params) }
+        ensures remembers { (x b : ℕ) → OnOk result
+            (Remembers x b func.old self.old func.new self.new) }
+        ensures parameters { IsLocal self.old variable block
+            → is_yes (sealed_of self.old block) ≡ true → (b : ℕ)
+            → OnOk result ((block_at func.new b).params ≡ (block_at func.old b).params) }
         ensures looks_once { LooksOnce self.old → LooksOnce self.new }
-        ensures structured { (types : VariableTypes) (own : Own) → ty ≡ types variable → Structured types own func.old self.old [] → IfOk result (λ r. Structured types own func.new self.new [] × HasType func.new r.0 ty) }
+        ensures structured { (types : VariableTypes) (own : Own) → ty ≡ types variable
+            → Structured types own func.old self.old []
+            → IfOk result (λ r. Structured types own func.new self.new []
+            × HasType func.new r.0 ty) }
         ensures predecessors { SamePredecessors self.old self.new }
         ensures stay { RecordsStay self.old self.new }
         ensures flags { SealedStays self.old self.new }
         ensures no_more { KnowsNoMore self.old self.new (length func.old.blocks) }
         ensures more { HasMore func.old func.new }
         ensures constructs { OnlyConstructs func.old func.new }
-        ensures tells { IfOk result (λ r. TellsZeros func.old func.new r.1.instructions_added_to_blocks.items) }
-        ensures tracks { NamesExist func.old self.old → OnOk result (TracksMade (length func.old.values) self.old self.new) }
-        ensures within { (holds : ℕ → Bool) → HoldsBranches func.old self.old holds → holds block ≡ true → IfOk result (λ r. StaysWithin holds func.old func.new r.1.instructions_added_to_blocks.items) }
+        ensures tells { IfOk result (λ r. TellsZeros func.old func.new
+            r.1.instructions_added_to_blocks.items) }
+        ensures tracks { NamesExist func.old self.old
+            → OnOk result (TracksMade (length func.old.values) self.old self.new) }
+        ensures within { (holds : ℕ → Bool) → HoldsBranches func.old self.old holds
+            → holds block ≡ true → IfOk result (λ r. StaysWithin holds func.old func.new
+            r.1.instructions_added_to_blocks.items) }
         ensures names { NamesExist func.old self.old → NamesExist func.new self.new }
-        ensures exists { NamesExist func.old self.old → IfOk result (λ r. r.0 < length func.new.values) }
+        ensures exists { NamesExist func.old self.old
+            → IfOk result (λ r. r.0 < length func.new.values) }
         ensures pools { MayPool ty func.old.tables func.new.tables }
         ensures full { result ≡ Err BuildError.Full → UseIsFull ty func.new }
-        ensures err { IsLocal self.old variable block → OnErr result (SameBlocks self.old self.new) }
+        ensures err { IsLocal self.old variable block
+            → OnErr result (SameBlocks self.old self.new) }
         ensures never_failed { result ≢ Err BuildError.Failed }
     {
         func.law_consistent();
@@ -426,8 +484,12 @@ impl SSABuilder {
         requires named { Named func.old self.old }
         ensures makes { SealMakes block func.old self.old func.new self.new result }
         ensures keeps { SealKeeps block func.old self.old func.new self.new }
-        ensures pools { NamesExist func.old self.old → StepPools (types_of func.old (pending_of (sealed_of self.old block))) func.old self.old func.new self.new }
-        ensures full_waiting { NamesExist func.old self.old → result ≡ Err BuildError.Full → SealingIsFull (Contains (types_of func.old (pending_of (sealed_of self.old block)))) func.new }
+        ensures pools { NamesExist func.old self.old
+            → StepPools (types_of func.old (pending_of
+            (sealed_of self.old block))) func.old self.old func.new self.new }
+        ensures full_waiting { NamesExist func.old self.old → result ≡ Err BuildError.Full
+            → SealingIsFull (Contains (types_of func.old (pending_of
+            (sealed_of self.old block)))) func.new }
         ensures ends { StepEnds ConstructionIsFull func.new result }
     {
         let waiting = self.tables.blocks.seal(block)?;
@@ -468,25 +530,45 @@ impl SSABuilder {
     ) -> Result<SideEffects, BuildError>
         requires named { Named func.old self.old }
         ensures sealed { OnOk result (SealsOne self.old self.new block) }
-        ensures err { OnErr result (SealedStays self.old self.new ⊎ SealsOne self.old self.new block) }
-        ensures local { predecessors_of self.old block ≡ [] → SealsLocally func.old self.old func.new self.new block result }
-        ensures keeps { (own : Own) (tables : Blocks) → SparesIfEntry func.old self.old block → DescribesSoundly own func.old self.old tables → OnOk result (Keeps own tables func.new self.new) }
-        ensures remembers { (x b : ℕ) → OnOk result (Remembers x b func.old self.old func.new self.new) }
-        ensures parameters { predecessors_of self.old block ≡ [] → OnOk result (LosesWaiting func.old func.new (pending_of (sealed_of self.old block))) }
-        ensures structured { (types : VariableTypes) (own : Own) → Structured types own func.old self.old [] → OnOk result (Structured types own func.new self.new []) }
-        ensures completes { predecessors_of self.old block ≢ [] → IfOk result (λ r. SealsByLookUp func.old self.old func.new self.new block r.instructions_added_to_blocks.items) }
+        ensures err { OnErr result (SealedStays self.old self.new
+            ⊎ SealsOne self.old self.new block) }
+        ensures local { predecessors_of self.old block ≡ []
+            → SealsLocally func.old self.old func.new self.new block result }
+        ensures keeps { (own : Own) (tables : Blocks) → SparesIfEntry func.old self.old block
+            → DescribesSoundly own func.old self.old tables
+            → OnOk result (Keeps own tables func.new self.new) }
+        ensures remembers { (x b : ℕ) → OnOk result
+            (Remembers x b func.old self.old func.new self.new) }
+        ensures parameters { predecessors_of self.old block ≡ []
+            → OnOk result (LosesWaiting func.old func.new (pending_of (sealed_of self.old block))) }
+        ensures structured { (types : VariableTypes) (own : Own)
+            → Structured types own func.old self.old []
+            → OnOk result (Structured types own func.new self.new []) }
+        ensures completes { predecessors_of self.old block ≢ []
+            → IfOk result (λ r. SealsByLookUp func.old self.old func.new self.new block
+            r.instructions_added_to_blocks.items) }
         ensures looks_once { LooksOnce self.old → LooksOnce self.new }
         ensures predecessors { SamePredecessors self.old self.new }
         ensures stay { RecordsStay self.old self.new }
-        ensures no_more { block < length func.old.blocks → KnowsNoMore self.old self.new (length func.old.blocks) }
+        ensures no_more { block < length func.old.blocks
+            → KnowsNoMore self.old self.new (length func.old.blocks) }
         ensures more { HasMore func.old func.new }
         ensures constructs { OnlyConstructs func.old func.new }
-        ensures tells { IfOk result (λ r. TellsZeros func.old func.new r.instructions_added_to_blocks.items) }
-        ensures tracks { NamesExist func.old self.old → OnOk result (TracksMade (length func.old.values) self.old self.new) }
-        ensures within { (holds : ℕ → Bool) → HoldsBranches func.old self.old holds → HoldsWaiting func.old self.old holds block → IfOk result (λ r. StaysWithin holds func.old func.new r.instructions_added_to_blocks.items) }
+        ensures tells { IfOk result (λ r. TellsZeros func.old func.new
+            r.instructions_added_to_blocks.items) }
+        ensures tracks { NamesExist func.old self.old
+            → OnOk result (TracksMade (length func.old.values) self.old self.new) }
+        ensures within { (holds : ℕ → Bool) → HoldsBranches func.old self.old holds
+            → HoldsWaiting func.old self.old holds block
+            → IfOk result (λ r. StaysWithin holds func.old func.new
+            r.instructions_added_to_blocks.items) }
         ensures names { NamesExist func.old self.old → NamesExist func.new self.new }
-        ensures pools { NamesExist func.old self.old → MayPoolAll (types_of func.old (pending_of (sealed_of self.old block))) func.old.tables func.new.tables }
-        ensures full_waiting { NamesExist func.old self.old → result ≡ Err BuildError.Full → SealingIsFull (Contains (types_of func.old (pending_of (sealed_of self.old block)))) func.new }
+        ensures pools { NamesExist func.old self.old
+            → MayPoolAll (types_of func.old (pending_of
+            (sealed_of self.old block))) func.old.tables func.new.tables }
+        ensures full_waiting { NamesExist func.old self.old → result ≡ Err BuildError.Full
+            → SealingIsFull (Contains (types_of func.old (pending_of
+            (sealed_of self.old block)))) func.new }
         ensures full { result ≡ Err BuildError.Full → ConstructionIsFull func.new }
         ensures never_failed { result ≢ Err BuildError.Failed }
     {
@@ -503,25 +585,42 @@ impl SSABuilder {
     /// Those of [`SSABuilder::seal_block`].
     pub fn seal_all_blocks(&mut self, func: &mut Function) -> Result<SideEffects, BuildError>
         requires named { Named func.old self.old }
-        ensures sealed { OnOk result ((b : ℕ) → b < length func.old.blocks → is_yes (sealed_of self.new b) ≡ true) }
-        ensures sealed_stays { (b : ℕ) → is_yes (sealed_of self.old b) ≡ true → is_yes (sealed_of self.new b) ≡ true }
-        ensures others { (b : ℕ) → length func.old.blocks ≤ b → is_yes (sealed_of self.new b) ≡ is_yes (sealed_of self.old b) }
-        ensures in_turn { IfOk result (λ r. SealsBelow func.old self.old (length func.old.blocks) func.new self.new r.instructions_added_to_blocks.items) }
-        ensures keeps { (own : Own) (tables : Blocks) → ((b : ℕ) → b < length func.old.blocks → SparesIfEntry func.old self.old b) → DescribesSoundly own func.old self.old tables → OnOk result (Keeps own tables func.new self.new) }
-        ensures remembers { (x b : ℕ) → OnOk result (Remembers x b func.old self.old func.new self.new) }
+        ensures sealed { OnOk result ((b : ℕ) → b < length func.old.blocks
+            → is_yes (sealed_of self.new b) ≡ true) }
+        ensures sealed_stays { (b : ℕ) → is_yes (sealed_of self.old b) ≡ true
+            → is_yes (sealed_of self.new b) ≡ true }
+        ensures others { (b : ℕ) → length func.old.blocks ≤ b
+            → is_yes (sealed_of self.new b) ≡ is_yes (sealed_of self.old b) }
+        ensures in_turn { IfOk result (λ r. SealsBelow func.old self.old
+            (length func.old.blocks) func.new self.new r.instructions_added_to_blocks.items) }
+        ensures keeps { (own : Own) (tables : Blocks) → ((b : ℕ) → b < length func.old.blocks
+            → SparesIfEntry func.old self.old b) → DescribesSoundly own func.old self.old tables
+            → OnOk result (Keeps own tables func.new self.new) }
+        ensures remembers { (x b : ℕ) → OnOk result
+            (Remembers x b func.old self.old func.new self.new) }
         ensures looks_once { LooksOnce self.old → LooksOnce self.new }
-        ensures structured { (types : VariableTypes) (own : Own) → Structured types own func.old self.old [] → OnOk result (Structured types own func.new self.new []) }
+        ensures structured { (types : VariableTypes) (own : Own)
+            → Structured types own func.old self.old []
+            → OnOk result (Structured types own func.new self.new []) }
         ensures predecessors { SamePredecessors self.old self.new }
         ensures stay { RecordsStay self.old self.new }
-        ensures no_more { length self.old.blocks ≤ length func.old.blocks → length self.new.blocks ≤ length func.old.blocks }
+        ensures no_more { length self.old.blocks ≤ length func.old.blocks
+            → length self.new.blocks ≤ length func.old.blocks }
         ensures more { HasMore func.old func.new }
         ensures constructs { OnlyConstructs func.old func.new }
-        ensures tells { IfOk result (λ r. TellsZeros func.old func.new r.instructions_added_to_blocks.items) }
-        ensures tracks { NamesExist func.old self.old → OnOk result (TracksMade (length func.old.values) self.old self.new) }
-        ensures within { (holds : ℕ → Bool) → HoldsBranches func.old self.old holds → ((b : ℕ) → b < length func.old.blocks → HoldsWaiting func.old self.old holds b) → IfOk result (λ r. StaysWithin holds func.old func.new r.instructions_added_to_blocks.items) }
+        ensures tells { IfOk result (λ r. TellsZeros func.old func.new
+            r.instructions_added_to_blocks.items) }
+        ensures tracks { NamesExist func.old self.old
+            → OnOk result (TracksMade (length func.old.values) self.old self.new) }
+        ensures within { (holds : ℕ → Bool) → HoldsBranches func.old self.old holds → ((b : ℕ)
+            → b < length func.old.blocks → HoldsWaiting func.old self.old holds b)
+            → IfOk result (λ r. StaysWithin holds func.old func.new
+            r.instructions_added_to_blocks.items) }
         ensures names { NamesExist func.old self.old → NamesExist func.new self.new }
-        ensures pools { NamesExist func.old self.old → MayPoolWaiting func.old self.old func.new.tables }
-        ensures full_waiting { NamesExist func.old self.old → result ≡ Err BuildError.Full → SealingIsFull (WaitsWithType func.old self.old) func.new }
+        ensures pools { NamesExist func.old self.old
+            → MayPoolWaiting func.old self.old func.new.tables }
+        ensures full_waiting { NamesExist func.old self.old → result ≡ Err BuildError.Full
+            → SealingIsFull (WaitsWithType func.old self.old) func.new }
         ensures full { result ≡ Err BuildError.Full → ConstructionIsFull func.new }
         ensures never_failed { result ≢ Err BuildError.Failed }
     {

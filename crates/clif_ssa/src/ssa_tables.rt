@@ -110,8 +110,10 @@ impl SsaTables {
 
     /// Whether a block is unsealed or nothing leads to it.
     pub(crate) fn is_local(&self, block: Block) -> bool
-        ensures yes { IsTrue result → is_yes (sealed_of self.now block) ≡ true → predecessors_of self.now block ≡ [] }
-        ensures no { result ≡ false → (is_yes (sealed_of self.now block) ≡ true) × (predecessors_of self.now block ≢ []) }
+        ensures yes { IsTrue result → is_yes (sealed_of self.now block) ≡ true
+            → predecessors_of self.now block ≡ [] }
+        ensures no { result ≡ false → (is_yes (sealed_of self.now block) ≡ true)
+            × (predecessors_of self.now block ≢ []) }
     {
         !self.blocks.is_sealed(block) || self.blocks.predecessors(block).is_empty()
     }
@@ -129,7 +131,8 @@ impl SsaTables {
         ensures err { OnErr result (SameRecords self.old self.new) }
         ensures lookups { SameLookups self.old self.new }
         ensures blocks { self.new.blocks ≡ self.old.blocks }
-        ensures tracking { OnOk result (self.new.tracking ≡ with_binding self.old.tracking variable value) }
+        ensures tracking { OnOk result (self.new.tracking ≡ with_binding self.old.tracking variable
+            value) }
         ensures refused { OnErr result (MayBind self.old self.new variable value) }
         ensures only_memory { OnErr result (result ≡ Err BuildError.Memory) }
     {
@@ -207,11 +210,15 @@ impl SsaTables {
         look_up: &mut LookUp,
     ) -> Result<(), BuildError>
         ensures counted { OnOk result (CountsLookup self.old self.new variable block) }
-        ensures counts { SameLookups self.old self.new ⊎ CountsLookup self.old self.new variable block }
+        ensures counts { SameLookups self.old self.new
+            ⊎ CountsLookup self.old self.new variable block }
         ensures records { SameRecords self.old self.new }
         ensures blocks { self.new.blocks ≡ self.old.blocks }
         ensures tracking { self.new.tracking ≡ self.old.tracking }
-        ensures look_up { OnOk result (look_up.new ≡ record look_up.old { calls = calls_for (predecessors_of self.old block) param block ++ look_up.old.calls }) }
+        ensures look_up { OnOk result (look_up.new ≡ record look_up.old {
+          calls = calls_for
+              (predecessors_of self.old block) param block ++ look_up.old.calls;
+        }) }
         ensures only_memory { OnErr result (result ≡ Err BuildError.Memory) }
     {
         self.variables.count_lookup(variable, block)?;
@@ -231,8 +238,10 @@ impl SsaTables {
         requires unrecorded { record_of self.old variable block ≡ None }
         ensures number { IfOk result (λ v. v ≡ length func.old.values) }
         ensures function { OnOk result (func.new ≡ with_param func.old block ty) }
-        ensures records { OnOk result (Records self.old self.new variable block (length func.old.values)) }
-        ensures tracking { OnOk result (self.new.tracking ≡ with_binding self.old.tracking variable (length func.old.values)) }
+        ensures records { OnOk result (Records self.old self.new variable block
+            (length func.old.values)) }
+        ensures tracking { OnOk result (self.new.tracking ≡ with_binding self.old.tracking variable
+            (length func.old.values)) }
         ensures blocks { self.new.blocks ≡ self.old.blocks }
         ensures lookups { SameLookups self.old self.new }
         ensures keeps { StepKeeps variable ty func.old self.old func.new self.new }
@@ -278,7 +287,8 @@ impl SsaTables {
         waiting: &[Pending],
     ) -> Result<SideEffects, BuildError>
         ensures function { OnOk result (func.new ≡ completed func.old waiting.now) }
-        ensures told { IfOk result (λ r. r.instructions_added_to_blocks.items ≡ completing_blocks func.old waiting.now) }
+        ensures told { IfOk result (λ r. r.instructions_added_to_blocks.items ≡ completing_blocks
+            func.old waiting.now) }
         ensures records { SameRecords self.old self.new }
         ensures tracking { self.new.tracking ≡ self.old.tracking }
         ensures counted { OnOk result (CountsEach self.old self.new block waiting.now) }
@@ -286,10 +296,14 @@ impl SsaTables {
         ensures looks_once { ToComplete self.old block waiting.now → LooksOnce self.new }
         ensures more { HasMore func.old func.new }
         ensures constructs { OnlyConstructs func.old func.new }
-        ensures tells { IfOk result (λ r. TellsZeros func.old func.new r.instructions_added_to_blocks.items) }
+        ensures tells { IfOk result (λ r. TellsZeros func.old func.new
+            r.instructions_added_to_blocks.items) }
         ensures full { result ≡ Err BuildError.Full → ConstructionIsFull func.new }
-        ensures pools { ((p : Pending) → Contains waiting.now p → p.param < length func.old.values) → MayPoolAll (types_of func.old waiting.now) func.old.tables func.new.tables }
-        ensures full_waiting { ((p : Pending) → Contains waiting.now p → p.param < length func.old.values) → result ≡ Err BuildError.Full → SealingIsFull (Contains (types_of func.old waiting.now)) func.new }
+        ensures pools { ((p : Pending) → Contains waiting.now p → p.param < length func.old.values)
+            → MayPoolAll (types_of func.old waiting.now) func.old.tables func.new.tables }
+        ensures full_waiting { ((p : Pending) → Contains waiting.now p
+            → p.param < length func.old.values) → result ≡ Err BuildError.Full
+            → SealingIsFull (Contains (types_of func.old waiting.now)) func.new }
         ensures never_failed { result ≢ Err BuildError.Failed }
     {
         let mut side_effects = SideEffects::new(alloc);
@@ -313,9 +327,11 @@ impl SsaTables {
     ) -> Result<Value, BuildError>
         requires exists { block < length func.old.blocks }
         requires unrecorded { record_of self.old variable block ≡ None }
-        ensures got { IfOk result (λ v. Got variable ty block v (stage func.old self.old look_up.old) (stage func.new self.new look_up.new)) }
+        ensures got { IfOk result (λ v. Got variable ty block v
+            (stage func.old self.old look_up.old) (stage func.new self.new look_up.new)) }
         ensures keeps { StepKeeps variable ty func.old self.old func.new self.new }
-        ensures tells { OnOk result (TellsMore func.old func.new look_up.old.zeros look_up.new.zeros) }
+        ensures tells { OnOk result (TellsMore func.old func.new look_up.old.zeros
+            look_up.new.zeros) }
         ensures ends { StepEnds (UseIsFull ty) func.new result }
     {
         let param = self.new_parameter(func, variable, ty, block)?;
@@ -342,9 +358,11 @@ impl SsaTables {
     ) -> Result<Value, BuildError>
         requires exists { block < length func.old.blocks }
         requires at_hand { recorded ≡ record_of self.old variable block }
-        ensures got { IfOk result (λ v. Got variable ty block v (stage func.old self.old look_up.old) (stage func.new self.new look_up.new)) }
+        ensures got { IfOk result (λ v. Got variable ty block v
+            (stage func.old self.old look_up.old) (stage func.new self.new look_up.new)) }
         ensures keeps { StepKeeps variable ty func.old self.old func.new self.new }
-        ensures tells { OnOk result (TellsMore func.old func.new look_up.old.zeros look_up.new.zeros) }
+        ensures tells { OnOk result (TellsMore func.old func.new look_up.old.zeros
+            look_up.new.zeros) }
         ensures ends { StepEnds (UseIsFull ty) func.new result }
     {
         if let Some(value) = recorded {

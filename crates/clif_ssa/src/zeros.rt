@@ -28,10 +28,13 @@ pub(crate) fn replace_by_zero(
     ensures answer { MatchOption (param_home func.old param)
         (IfOk result (λ v. v ≡ param))
         (λ _. IfOk result (λ v. v ≡ zero_value func.old (value_at func.old param).ty)) }
-    ensures told { OnOk result (side_effects.new.instructions_added_to_blocks.items ≡ side_effects.old.instructions_added_to_blocks.items ++ option_to_list (param_home func.old param)) }
+    ensures told { OnOk result (side_effects.new.instructions_added_to_blocks.items ≡
+        side_effects.old.instructions_added_to_blocks.items ++ option_to_list
+        (param_home func.old param)) }
     ensures more { HasMore func.old func.new }
     ensures constructs { OnlyConstructs func.old func.new }
-    ensures tells { OnOk result (TellsZeros func.old func.new (option_to_list (param_home func.old param))) }
+    ensures tells { OnOk result (TellsZeros func.old func.new (option_to_list
+        (param_home func.old param))) }
     ensures pools { MayPool (value_at func.old param).ty func.old.tables func.new.tables }
     ensures full { result ≡ Err BuildError.Full → UseIsFull (value_at func.old param).ty func.new }
     ensures never_failed { result ≢ Err BuildError.Failed }
@@ -103,7 +106,8 @@ fn put_zero(func: &mut Function, block: Block, ty: Type) -> Result<Value, BuildE
 // Pools the constant of a type's zero, if it has one.
 fn pool_zeros(func: &mut Function, ty: Type) -> Result<Constant, BuildError>
     ensures ok { OnOk result (func.new ≡ with_pooled func.old ty) }
-    ensures number { IfOk result (λ constant. constant ≡ zeros_number func.old.tables.constants (zero_size ty)) }
+    ensures number { IfOk result (λ constant. constant ≡ zeros_number func.old.tables.constants
+        (zero_size ty)) }
     ensures err { OnErr result (func.new ≡ func.old) }
     ensures full { result ≡ Err BuildError.Full → LacksZero ty func.old }
     ensures never_failed { result ≢ Err BuildError.Failed }
