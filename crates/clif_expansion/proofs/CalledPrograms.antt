@@ -7,8 +7,9 @@ use Rattle.clif_types.specs.declared.types.«Type».{«Type»}
 use Rattle.clif_meaning.specs.Instruction.{Edge, Instruction, Operation, Switch}
 use Rattle.clif_meaning.specs.Ledger.{Ledger, answers_to, changed_by, is_terminator, ledger_with, with_begun, with_filled_at, with_instruction, with_predecessor, with_terminator}
 use Rattle.clif_meaning.specs.Name.{Name, answer_of, same_name}
-use Rattle.clif_meaning.specs.Program.{Program, Item, Instruct, Use, Assign, answers_from, extended, redirected_item, result_names, result_types, with_call, with_inserted, with_item_at, with_parameters}
-use Rattle.clif_meaning.specs.Request.{Request, CreateBlock, SwitchToBlock, SealBlock, SealAllBlocks, InsertBlockAfter, SetColdBlock, EnsureInsertedBlock, AppendBlockParams, AppendFunctionParams, DeclareVar, DefVar, UseVar, MakeEntry, MakeEdge, MakeJumpTable, MakeExceptionTable, Annotate, NeedStackMap, Build, ChangeJumpDestination, Finalize}
+use Rattle.clif_meaning.specs.Program.{Program, Item, Instruct, Use, Assign, answers_from, extended, redirected_item, result_names, result_types, with_call, with_inserted, with_item_at, with_parameters, with_redirected}
+use Rattle.clif_meaning.specs.Request.{Request, SwitchToBlock}
+use Rattle.clif_meaning.proofs.Effects.{switch_of, ProgramEffect, program_effect, Leaves, Inserts, Takes, Switches, Assigns, Uses, Builds, Redirects, LedgerEffect, ledger_effect, Keeps, Lays, Changes, Begins, Creates, Enters, ChangesEach, Declares, Touches, Reads, Marks, Appends}
 use Rattle.clif_expansion.specs.Emission.{AreAnswered, AreGenerated, AreGiven, LastResults, StaysInLine, reading_behind}
 use Rattle.clif_expansion.specs.Expansion.{AreCut, IsCutProgram, IsReadBlock}
 use Rattle.clif_expansion.specs.JoinedCalls.{HaveCurrent, uses_current}
@@ -25,6 +26,7 @@ use Rattle.clif_expansion.proofs.JoinedStates.{chosen, zip_joined}
 use Rattle.clif_expansion.proofs.Joins
 use Rattle.clif_expansion.proofs.Joins.{GoesOn, KeepsGenerated, block_later, edges_later, names_later, read_either, read_there}
 use Rattle.clif_expansion.proofs.Names.{same_read, same_script}
+use Rattle.clif_expansion.proofs.ReadEffects.{ReadProgramEffect, BothLeave, BothInsert, BothTake, BothSwitch, BothAssign, BothUse, BothBuild, BothRedirect, read_effects}
 use Rattle.clif_expansion.proofs.Placing.{contained_first, contained_in, contained_later, contained_left, none_contained}
 
 -- so a program, which a call of the builder changes, and a ledger have the same current block
@@ -36,29 +38,32 @@ added_current : (p : Program) (c : Option Name) (item : Item) → (with_item_at 
 added_current p None item = refl
 added_current p (Some block) item = refl
 
+-- a call that doesn't switch leaves it
+current_stays : (request : Request) → switch_of request ≡ None → (current : Option Name) → current_behind request current ≡ current
+current_stays (SwitchToBlock block) stays current = let no_way : Some block ≡ None = stays in cc
+current_stays _ stays current = refl
+
 pub extended_current : (program : Program) (request : Request) → (extended program request).current ≡ current_behind request program.current
-extended_current program (SwitchToBlock block) = refl
-extended_current program (DefVar variable value) = added_current program program.current (Assign variable value)
-extended_current program (UseVar variable) = added_current (with_inserted program) program.current (Use variable (answer_of program.place 0))
-extended_current program (Build entries instruction) =
-    added_current (with_inserted program) program.current (Instruct program.place instruction (result_names program.place instruction))
-extended_current program CreateBlock = refl
-extended_current program (SealBlock block) = refl
-extended_current program SealAllBlocks = refl
-extended_current program (InsertBlockAfter block after) = refl
-extended_current program (SetColdBlock block) = refl
-extended_current program EnsureInsertedBlock = refl
-extended_current program (AppendBlockParams block types) = refl
-extended_current program (AppendFunctionParams block types) = refl
-extended_current program (DeclareVar ty) = refl
-extended_current program (MakeEntry entry) = refl
-extended_current program (MakeEdge edge) = refl
-extended_current program (MakeJumpTable default entries) = refl
-extended_current program (MakeExceptionTable signature normal items) = refl
-extended_current program (Annotate inside values) = refl
-extended_current program (NeedStackMap need) = refl
-extended_current program (ChangeJumpDestination branch from to) = refl
-extended_current program Finalize = refl
+extended_current program request = by (program_effect request)
+  where
+    of_program : (other : Program) → switch_of request ≡ None → extended program request ≡ other → other.current ≡ program.current
+        → (extended program request).current ≡ current_behind request program.current
+    of_program other stays is same = ap (λ (p : Program). p.current) is ∙ same ∙ sym (current_stays request stays program.current)
+
+    of_request : (other : Request) → request ≡ other → (extended program other).current ≡ current_behind other program.current
+        → (extended program request).current ≡ current_behind request program.current
+    of_request other is same = subst (λ (r : Request). (extended program r).current ≡ current_behind r program.current) (sym is) same
+
+    by : ProgramEffect request → (extended program request).current ≡ current_behind request program.current
+    by (Leaves stays is) = of_program _ stays (is program) refl
+    by (Inserts stays is) = of_program _ stays (is program) refl
+    by (Takes block types stays none is) = of_program _ stays (is program) refl
+    by (Switches block is) = of_request _ is refl
+    by (Assigns variable value is) = of_request _ is (added_current program program.current (Assign variable value))
+    by (Uses variable is) = of_request _ is (added_current (with_inserted program) program.current (Use variable (answer_of program.place 0)))
+    by (Builds entries instruction is) =
+        of_request _ is (added_current (with_inserted program) program.current (Instruct program.place instruction (result_names program.place instruction)))
+    by (Redirects branch from to stays is) = of_program _ stays (is program) refl
 
 ended_current : (ledger : Ledger) (operation : Operation) → (with_terminator ledger operation).current ≡ ledger.current
 ended_current ledger operation = by (is_terminator operation) ledger.current refl
@@ -78,27 +83,29 @@ instruction_current ledger instruction =
     ∙ ended_current (with_begun ledger) instruction.operation ∙ begun_current ledger ledger.current
 
 pub asked_current : (ledger : Ledger) (request : Request) → (changed_by ledger request).current ≡ current_behind request ledger.current
-asked_current ledger (SwitchToBlock block) = refl
-asked_current ledger EnsureInsertedBlock = begun_current ledger ledger.current
-asked_current ledger (UseVar variable) = begun_current ledger ledger.current
-asked_current ledger (Build entries instruction) = instruction_current ledger instruction
-asked_current ledger CreateBlock = refl
-asked_current ledger (SealBlock block) = refl
-asked_current ledger SealAllBlocks = refl
-asked_current ledger (InsertBlockAfter block after) = refl
-asked_current ledger (SetColdBlock block) = refl
-asked_current ledger (AppendBlockParams block types) = refl
-asked_current ledger (AppendFunctionParams block types) = refl
-asked_current ledger (DeclareVar ty) = refl
-asked_current ledger (DefVar variable value) = refl
-asked_current ledger (MakeEntry entry) = refl
-asked_current ledger (MakeEdge edge) = refl
-asked_current ledger (MakeJumpTable default entries) = refl
-asked_current ledger (MakeExceptionTable signature normal items) = refl
-asked_current ledger (Annotate inside values) = refl
-asked_current ledger (NeedStackMap need) = refl
-asked_current ledger (ChangeJumpDestination branch from to) = refl
-asked_current ledger Finalize = refl
+asked_current ledger request = by (ledger_effect request)
+  where
+    of_ledger : (other : Ledger) → switch_of request ≡ None → changed_by ledger request ≡ other → other.current ≡ ledger.current
+        → (changed_by ledger request).current ≡ current_behind request ledger.current
+    of_ledger other stays is same = ap (λ (l : Ledger). l.current) is ∙ same ∙ sym (current_stays request stays ledger.current)
+
+    of_request : (other : Request) → request ≡ other → (changed_by ledger other).current ≡ current_behind other ledger.current
+        → (changed_by ledger request).current ≡ current_behind request ledger.current
+    of_request other is same = subst (λ (r : Request). (changed_by ledger r).current ≡ current_behind r ledger.current) (sym is) same
+
+    by : LedgerEffect request → (changed_by ledger request).current ≡ current_behind request ledger.current
+    by (Keeps stays is) = of_ledger _ stays (is ledger) refl
+    by (Lays layout tables jump_tables exception_tables stays is) = of_ledger _ stays (is ledger) refl
+    by (Changes block change keeps stays is) = of_ledger _ stays (is ledger) refl
+    by (Begins stays is) = of_ledger _ stays (is ledger) (begun_current ledger ledger.current)
+    by (Creates is) = of_request _ is refl
+    by (Enters block is) = of_request _ is refl
+    by (ChangesEach change keeps stays is) = of_ledger _ stays (is ledger) refl
+    by (Declares ty is) = of_request _ is refl
+    by (Touches variable value is) = of_request _ is refl
+    by (Reads variable is) = of_request _ is (begun_current ledger ledger.current)
+    by (Marks need is) = of_request _ is refl
+    by (Appends entries instruction is) = of_request _ is (instruction_current ledger instruction)
 
 -- where both have a current block or neither has, it is read
 pub both_read : (reading : Reading) (plain : Ledger) (current' current : Option Name) → IsReadCurrent reading plain current' current → is_some current' ≡ is_some current → IsReadBlock reading current' current
@@ -329,40 +336,29 @@ module _ (Known : Reading → List Item → Item → Type 0) (lasts : LastsLater
           answer_read 0,
         )
 
-    asked : (ask request : Request) → IsReadRequest reading ask request → (uses_current request ≡ true → HaveCurrent ledger' ledger) → Both (extended plain ask) (extended program request)
-    asked CreateBlock CreateBlock is placed = cut
-    asked (SwitchToBlock x) (SwitchToBlock block) is placed = record { entry = cut.entry; parameters = cut.parameters; items = cut.items }
-    asked (SealBlock x) (SealBlock block) is placed = cut
-    asked SealAllBlocks SealAllBlocks is placed = cut
-    asked (InsertBlockAfter x behind) (InsertBlockAfter block after) is placed = cut
-    asked (SetColdBlock x) (SetColdBlock block) is placed = cut
-    asked EnsureInsertedBlock EnsureInsertedBlock is placed = inserted (placed refl)
-    asked (AppendBlockParams x types') (AppendBlockParams block types) is placed = taking x block types' types is.0 is.1
-    asked (AppendFunctionParams x types') (AppendFunctionParams block types) is placed = taking x block types' types is.0 is.1
-    asked (DeclareVar ty') (DeclareVar ty) is placed = cut
-    asked (DefVar number x) (DefVar variable value) is placed =
-        added plain program plain.current program.current (Assign number x) (Assign variable value) (current (placed refl)) cut (inl ((is.0, keeps x value is.1), tt))
-    asked (UseVar number) (UseVar variable) is placed =
+    of_programs : (a b a' b' : Program) → a' ≡ a → b' ≡ b → Both a b → Both a' b'
+    of_programs a b a' b' same' same both = subst (λ (p : Program). Both p b') (sym same') (subst (λ (p : Program). Both a p) (sym same) both)
+
+    asked : (ask request : Request) → ReadProgramEffect reading ask request → (uses_current request ≡ true → HaveCurrent ledger' ledger) → Both (extended plain ask) (extended program request)
+    asked ask request (BothLeave a r is' is) placed = of_programs _ _ _ _ (is' plain) (is program) cut
+    asked ask request (BothInsert a r uses is' is) placed = of_programs _ _ _ _ (is' plain) (is program) (inserted (placed uses))
+    asked ask request (BothTake a r x block types' types read same is' is) placed = of_programs _ _ _ _ (is' plain) (is program) (taking x block types' types read same)
+    asked ask request (BothSwitch x block is) placed = record { entry = cut.entry; parameters = cut.parameters; items = cut.items }
+    asked ask request (BothAssign number variable x value same is) placed =
+        added plain program plain.current program.current (Assign number x) (Assign variable value) (current (placed refl)) cut (inl ((same, keeps x value is), tt))
+    asked ask request (BothUse number variable same) placed =
         added (with_inserted plain) (with_inserted program) plain.current program.current (Use number (answer_of plain.place 0)) (Use variable (answer_of program.place 0))
-        (current (placed refl)) (inserted (placed refl)) (inl ((is, answer_read 0), tt))
-    asked (MakeEntry entry') (MakeEntry entry) is placed = cut
-    asked (MakeEdge edge') (MakeEdge edge) is placed = cut
-    asked (MakeJumpTable first names) (MakeJumpTable default entries) is placed = cut
-    asked (MakeExceptionTable number first listed) (MakeExceptionTable signature normal items) is placed = cut
-    asked (Annotate inside names) (Annotate within values) is placed = cut
-    asked (NeedStackMap asked_need) (NeedStackMap need) is placed = cut
-    asked (Build entries' instruction') (Build entries instruction) is placed =
+        (current (placed refl)) (inserted (placed refl)) (inl ((same, answer_read 0), tt))
+    asked ask request (BothBuild entries' entries instruction' instruction is) placed =
         added (with_inserted plain) (with_inserted program) plain.current program.current (Instruct plain.place instruction' (result_names plain.place instruction'))
-        (Instruct program.place instruction (result_names program.place instruction)) (current (placed refl)) (inserted (placed refl)) (instruction_called instruction' instruction is.1)
-    asked (ChangeJumpDestination jump at there) (ChangeJumpDestination branch from to) is placed = record {
+        (Instruct program.place instruction (result_names program.place instruction)) (current (placed refl)) (inserted (placed refl)) (instruction_called instruction' instruction is)
+    asked ask request (BothRedirect jump branch at from there to is leaves enters) placed = record {
       entry = cut.entry;
       parameters = cut.parameters;
       items = λ x block read.
-          cut_mapped Stands _ _ (called_redirected later one_to_one jump branch at from there to (keeps jump branch is.0) (keeps at from is.1) (keeps there to is.2) Known Decided (suc made) plain)
+          cut_mapped Stands _ _ (called_redirected later one_to_one jump branch at from there to (keeps jump branch is) (keeps at from leaves) (keeps there to enters) Known Decided (suc made) plain)
           (plain.items x) (program.items block) (cut.items x block read);
     }
-    asked Finalize Finalize is placed = cut
-    asked _ _ is placed = absurd is
 
     -- GENERATED BLOCKS ----------------------------------------------------------------------------------------------------
 
@@ -380,35 +376,26 @@ module _ (Known : Reading → List Item → Item → Type 0) (lasts : LastsLater
     own_taking y block names read x own =
         (refl, ap (λ (c : Bool). if c then plain.parameters x ++ names else plain.parameters x) (other_generated reading y x block read own))
 
-    own_asked : (ask request : Request) → IsReadRequest reading ask request → (uses_current request ≡ true → HaveCurrent ledger' ledger) → (x : Name) → IsGenerated reading x → SameAt (extended plain ask) x
-    own_asked CreateBlock CreateBlock is placed x own = (refl, refl)
-    own_asked (SwitchToBlock y) (SwitchToBlock block) is placed x own = (refl, refl)
-    own_asked (SealBlock y) (SealBlock block) is placed x own = (refl, refl)
-    own_asked SealAllBlocks SealAllBlocks is placed x own = (refl, refl)
-    own_asked (InsertBlockAfter y behind) (InsertBlockAfter block after) is placed x own = (refl, refl)
-    own_asked (SetColdBlock y) (SetColdBlock block) is placed x own = (refl, refl)
-    own_asked EnsureInsertedBlock EnsureInsertedBlock is placed x own = (refl, refl)
-    own_asked (AppendBlockParams y types') (AppendBlockParams block types) is placed x own = own_taking y block (answers_from plain.place 0 types') is.0 x own
-    own_asked (AppendFunctionParams y types') (AppendFunctionParams block types) is placed x own = own_taking y block (answers_from plain.place 0 types') is.0 x own
-    own_asked (DeclareVar ty') (DeclareVar ty) is placed x own = (refl, refl)
-    own_asked (DefVar number y) (DefVar variable value) is placed x own = own_added plain plain.current program.current (Assign number y) (read_before_call (placed refl)) x own (refl, refl)
-    own_asked (UseVar number) (UseVar variable) is placed x own =
+    own_redirected : (jump branch at there : Name) → IsReadAs reading jump branch → (x : Name) → (plain.items x ≡ []) ⊎ OwnItems reading made plain program x
+        → map (redirected_item jump at there) (plain.items x) ≡ plain.items x
+    own_redirected jump branch at there is x (inl none) = ap (map (redirected_item jump at there)) none ∙ sym none
+    own_redirected jump branch at there is x (inr items) = own_unchanged reading jump branch at there is items.item (plain.items x) items.decides
+
+    own_of : (after other : Program) → after ≡ other → (x : Name) → SameAt other x → SameAt after x
+    own_of after other is x same = subst (λ (p : Program). SameAt p x) (sym is) same
+
+    own_asked : (ask request : Request) → ReadProgramEffect reading ask request → (uses_current request ≡ true → HaveCurrent ledger' ledger) → (x : Name) → IsGenerated reading x → SameAt (extended plain ask) x
+    own_asked ask request (BothLeave a r is' is) placed x own = own_of _ _ (is' plain) x (refl, refl)
+    own_asked ask request (BothInsert a r uses is' is) placed x own = own_of _ _ (is' plain) x (refl, refl)
+    own_asked ask request (BothTake a r y block types' types read same is' is) placed x own = own_of _ _ (is' plain) x (own_taking y block (answers_from plain.place 0 types') read x own)
+    own_asked ask request (BothSwitch y block is) placed x own = (refl, refl)
+    own_asked ask request (BothAssign number variable y value same is) placed x own =
+        own_added plain plain.current program.current (Assign number y) (read_before_call (placed refl)) x own (refl, refl)
+    own_asked ask request (BothUse number variable same) placed x own =
         own_added (with_inserted plain) plain.current program.current (Use number (answer_of plain.place 0)) (read_before_call (placed refl)) x own (refl, refl)
-    own_asked (MakeEntry entry') (MakeEntry entry) is placed x own = (refl, refl)
-    own_asked (MakeEdge edge') (MakeEdge edge) is placed x own = (refl, refl)
-    own_asked (MakeJumpTable first names) (MakeJumpTable default entries) is placed x own = (refl, refl)
-    own_asked (MakeExceptionTable number first listed) (MakeExceptionTable signature normal items) is placed x own = (refl, refl)
-    own_asked (Annotate inside names) (Annotate within values) is placed x own = (refl, refl)
-    own_asked (NeedStackMap asked_need) (NeedStackMap need) is placed x own = (refl, refl)
-    own_asked (Build entries' instruction') (Build entries instruction) is placed x own =
+    own_asked ask request (BothBuild entries' entries instruction' instruction is) placed x own =
         own_added (with_inserted plain) plain.current program.current (Instruct plain.place instruction' (result_names plain.place instruction')) (read_before_call (placed refl)) x own (refl, refl)
-    own_asked (ChangeJumpDestination jump at there) (ChangeJumpDestination branch from to) is placed x own = (by (goes.own x own).1, refl)
-      where
-        by : (plain.items x ≡ []) ⊎ OwnItems reading made plain program x → map (redirected_item jump at there) (plain.items x) ≡ plain.items x
-        by (inl none) = ap (map (redirected_item jump at there)) none ∙ sym none
-        by (inr items) = own_unchanged reading jump branch at there is.0 items.item (plain.items x) items.decides
-    own_asked Finalize Finalize is placed x own = (refl, refl)
-    own_asked _ _ is placed x own = absurd is
+    own_asked ask request (BothRedirect jump branch at from there to is leaves enters) placed x own = (own_redirected jump branch at there is x (goes.own x own).1, refl)
 
     -- a switch that was emitted stays in its block
     stays_added : (p : Program) (current : Option Name) (item other : Item) (block : Name) → Contains (p.items block) item → Contains ((with_item_at p current other).items block) item
@@ -419,41 +406,24 @@ module _ (Known : Reading → List Item → Item → Type 0) (lasts : LastsLater
         by true = contained_left (p.items block) (other ∷ []) item there
         by false = there
 
-    stays_asked : (ask request : Request) → IsReadRequest reading ask request → (block : Name) (item : Item) (other : ℕ) (switch : Instruction Name Name) → item ≡ emitted_item other switch
+    stays_asked : (ask request : Request) → ReadProgramEffect reading ask request → (block : Name) (item : Item) (other : ℕ) (switch : Instruction Name Name) → item ≡ emitted_item other switch
         → IsUnread reading made (answer_of other 0) → Contains (program.items block) item → Contains ((extended program request).items block) item
-    stays_asked (DefVar number y) (DefVar variable value) is block item other switch emitted unread there = stays_added program program.current item (Assign variable value) block there
-    stays_asked (UseVar number) (UseVar variable) is block item other switch emitted unread there = stays_added (with_inserted program) program.current item (Use variable (answer_of program.place 0)) block there
-    stays_asked (Build entries' instruction') (Build entries instruction) is block item other switch emitted unread there =
+    stays_asked ask request (BothLeave a r is' is) block item other switch emitted unread there = subst (λ (p : Program). Contains (p.items block) item) (sym (is program)) there
+    stays_asked ask request (BothInsert a r uses is' is) block item other switch emitted unread there = subst (λ (p : Program). Contains (p.items block) item) (sym (is program)) there
+    stays_asked ask request (BothTake a r x b types' types read same is' is) block item other switch emitted unread there =
+        subst (λ (p : Program). Contains (p.items block) item) (sym (is program)) there
+    stays_asked ask request (BothSwitch x b is) block item other switch emitted unread there = there
+    stays_asked ask request (BothAssign number variable x value same is) block item other switch emitted unread there =
+        stays_added program program.current item (Assign variable value) block there
+    stays_asked ask request (BothUse number variable same) block item other switch emitted unread there =
+        stays_added (with_inserted program) program.current item (Use variable (answer_of program.place 0)) block there
+    stays_asked ask request (BothBuild entries' entries instruction' instruction is) block item other switch emitted unread there =
         stays_added (with_inserted program) program.current item (Instruct program.place instruction (result_names program.place instruction)) block there
-    stays_asked (ChangeJumpDestination jump at where_to) (ChangeJumpDestination branch from to) is block item other switch emitted unread there =
+    stays_asked ask request (BothRedirect jump branch at from where_to to is leaves enters) block item other switch emitted unread there =
         contained_mapped (redirected_item branch from to) (program.items block) item there
-        (ap (redirected_item branch from to) emitted ∙ switch_unchanged reading jump branch from to is.0 other switch unread.unread ∙ sym emitted)
-    stays_asked CreateBlock CreateBlock is block item other switch emitted unread there = there
-    stays_asked (SwitchToBlock y) (SwitchToBlock b) is block item other switch emitted unread there = there
-    stays_asked (SealBlock y) (SealBlock b) is block item other switch emitted unread there = there
-    stays_asked SealAllBlocks SealAllBlocks is block item other switch emitted unread there = there
-    stays_asked (InsertBlockAfter y behind) (InsertBlockAfter b after) is block item other switch emitted unread there = there
-    stays_asked (SetColdBlock y) (SetColdBlock b) is block item other switch emitted unread there = there
-    stays_asked EnsureInsertedBlock EnsureInsertedBlock is block item other switch emitted unread there = there
-    stays_asked (AppendBlockParams y types') (AppendBlockParams b types) is block item other switch emitted unread there = there
-    stays_asked (AppendFunctionParams y types') (AppendFunctionParams b types) is block item other switch emitted unread there = there
-    stays_asked (DeclareVar ty') (DeclareVar ty) is block item other switch emitted unread there = there
-    stays_asked (MakeEntry entry') (MakeEntry entry) is block item other switch emitted unread there = there
-    stays_asked (MakeEdge edge') (MakeEdge edge) is block item other switch emitted unread there = there
-    stays_asked (MakeJumpTable first names) (MakeJumpTable default entries) is block item other switch emitted unread there = there
-    stays_asked (MakeExceptionTable number first listed) (MakeExceptionTable signature normal items) is block item other switch emitted unread there = there
-    stays_asked (Annotate inside names) (Annotate within values) is block item other switch emitted unread there = there
-    stays_asked (NeedStackMap asked_need) (NeedStackMap need) is block item other switch emitted unread there = there
-    stays_asked Finalize Finalize is block item other switch emitted unread there = there
-    stays_asked _ _ is block item other switch emitted unread there = absurd is
+        (ap (redirected_item branch from to) emitted ∙ switch_unchanged reading jump branch from to is other switch unread.unread ∙ sym emitted)
 
   -- BARE --------------------------------------------------------------------------------------------------------------------
-
-  -- a block that the request gives parameters comes before
-  abbrev TakesBefore : ℕ → Request → Type 0
-  TakesBefore place (AppendBlockParams block types) = block.place < place
-  TakesBefore place (AppendFunctionParams block types) = block.place < place
-  TakesBefore place _ = Unit {0}
 
   bare_item : (place : ℕ) (program : Program) (current : Option Name) (item : Item) → IsBefore place current → IsBareFrom place program → IsBareFrom place (with_item_at program current item)
   bare_item place program current item before bare =
@@ -465,30 +435,42 @@ module _ (Known : Reading → List Item → Item → Type 0) (lasts : LastsLater
     ap (λ (c : Bool). if c then program.parameters x ++ names else program.parameters x) (elsewhere x block place before behind) ∙ (bare x behind).1,
   )
 
-  bare_extended : (place : ℕ) (program : Program) (request : Request) → IsBefore place program.current → TakesBefore place request → IsBareFrom place program → IsBareFrom place (extended program request)
-  bare_extended place program CreateBlock before takes bare = bare
-  bare_extended place program (SwitchToBlock block) before takes bare = bare
-  bare_extended place program (SealBlock block) before takes bare = bare
-  bare_extended place program SealAllBlocks before takes bare = bare
-  bare_extended place program (InsertBlockAfter block after) before takes bare = bare
-  bare_extended place program (SetColdBlock block) before takes bare = bare
-  bare_extended place program EnsureInsertedBlock before takes bare = bare
-  bare_extended place program (AppendBlockParams block types) before takes bare = bare_taking place program block (answers_from program.place 0 types) takes bare
-  bare_extended place program (AppendFunctionParams block types) before takes bare = bare_taking place program block (answers_from program.place 0 types) takes bare
-  bare_extended place program (DeclareVar ty) before takes bare = bare
-  bare_extended place program (DefVar variable value) before takes bare = bare_item place program program.current (Assign variable value) before bare
-  bare_extended place program (UseVar variable) before takes bare = bare_item place (with_inserted program) program.current (Use variable (answer_of program.place 0)) before bare
-  bare_extended place program (MakeEntry entry) before takes bare = bare
-  bare_extended place program (MakeEdge edge) before takes bare = bare
-  bare_extended place program (MakeJumpTable default entries) before takes bare = bare
-  bare_extended place program (MakeExceptionTable signature normal items) before takes bare = bare
-  bare_extended place program (Annotate inside values) before takes bare = bare
-  bare_extended place program (NeedStackMap need) before takes bare = bare
-  bare_extended place program (Build entries instruction) before takes bare =
-      bare_item place (with_inserted program) program.current (Instruct program.place instruction (result_names program.place instruction)) before bare
-  bare_extended place program (ChangeJumpDestination branch from to) before takes bare =
-      λ x behind. (ap (map (redirected_item branch from to)) (bare x behind).0, (bare x behind).1)
-  bare_extended place program Finalize before takes bare = bare
+  bare_redirected : (place : ℕ) (program : Program) (branch from to : Name) → IsBareFrom place program → IsBareFrom place (with_redirected program branch from to)
+  bare_redirected place program branch from to bare = λ x behind. (ap (map (redirected_item branch from to)) (bare x behind).0, (bare x behind).1)
+
+  bare_of : (place : ℕ) (after other : Program) → after ≡ other → IsBareFrom place other → IsBareFrom place after
+  bare_of place after other is bare = subst (IsBareFrom place) (sym is) bare
+
+  -- both programs stay bare from the places on from which they were: the blocks that get something come before
+  module _ (reading : Reading) (ledger' ledger : Ledger) (joined : IsJoined reading ledger' ledger) (plain program : Program)
+      (before' : IsBefore (length ledger'.answers) plain.current) (before : IsBefore (length ledger.answers) program.current)
+      (bare' : IsBareFrom (length ledger'.answers) plain) (bare : IsBareFrom (length ledger.answers) program) where
+    abbrev here' : ℕ
+    here' = length ledger'.answers
+
+    abbrev here : ℕ
+    here = length ledger.answers
+
+    bare_asked : (ask request : Request) → ReadProgramEffect reading ask request → IsBareFrom here' (extended plain ask) × IsBareFrom here (extended program request)
+    bare_asked ask request (BothLeave a r is' is) = (bare_of here' _ _ (is' plain) bare', bare_of here _ _ (is program) bare)
+    bare_asked ask request (BothInsert a r uses is' is) = (bare_of here' _ (with_inserted plain) (is' plain) bare', bare_of here _ (with_inserted program) (is program) bare)
+    bare_asked ask request (BothTake a r x block types' types read same is' is) = (
+      bare_of here' _ _ (is' plain) (bare_taking here' plain x (answers_from plain.place 0 types') (joined.made x block read).0 bare'),
+      bare_of here _ _ (is program) (bare_taking here program block (answers_from program.place 0 types) (joined.made x block read).1 bare),
+    )
+    bare_asked ask request (BothSwitch x block is) = (bare', bare)
+    bare_asked ask request (BothAssign number variable x value same is) =
+        (bare_item here' plain plain.current (Assign number x) before' bare', bare_item here program program.current (Assign variable value) before bare)
+    bare_asked ask request (BothUse number variable same) = (
+      bare_item here' (with_inserted plain) plain.current (Use number (answer_of plain.place 0)) before' bare',
+      bare_item here (with_inserted program) program.current (Use variable (answer_of program.place 0)) before bare,
+    )
+    bare_asked ask request (BothBuild entries' entries instruction' instruction is) = (
+      bare_item here' (with_inserted plain) plain.current (Instruct plain.place instruction' (result_names plain.place instruction')) before' bare',
+      bare_item here (with_inserted program) program.current (Instruct program.place instruction (result_names program.place instruction)) before bare,
+    )
+    bare_asked ask request (BothRedirect jump branch at from there to is leaves enters) =
+        (bare_redirected here' plain jump at there bare', bare_redirected here program branch from to bare)
 
   module _ (reading : Reading) (ledger' ledger : Ledger) (joined : IsJoined reading ledger' ledger) where
     pub before' : (current' current : Option Name) → IsReadCurrent reading ledger' current' current → IsBefore (length ledger'.answers) current'
@@ -507,30 +489,6 @@ module _ (Known : Reading → List Item → Item → Type 0) (lasts : LastsLater
     before (Some x) (Some block) is = (joined.made x block is).1
     before None (Some block) is = absurd is
     before (Some x) None is = tt
-
-    takes' : (ask request : Request) → IsReadRequest reading ask request → TakesBefore (length ledger'.answers) ask × TakesBefore (length ledger.answers) request
-    takes' (AppendBlockParams x types') (AppendBlockParams block types) is = joined.made x block is.0
-    takes' (AppendFunctionParams x types') (AppendFunctionParams block types) is = joined.made x block is.0
-    takes' CreateBlock CreateBlock is = (tt, tt)
-    takes' (SwitchToBlock x) (SwitchToBlock block) is = (tt, tt)
-    takes' (SealBlock x) (SealBlock block) is = (tt, tt)
-    takes' SealAllBlocks SealAllBlocks is = (tt, tt)
-    takes' (InsertBlockAfter x behind) (InsertBlockAfter block after) is = (tt, tt)
-    takes' (SetColdBlock x) (SetColdBlock block) is = (tt, tt)
-    takes' EnsureInsertedBlock EnsureInsertedBlock is = (tt, tt)
-    takes' (DeclareVar ty') (DeclareVar ty) is = (tt, tt)
-    takes' (DefVar number x) (DefVar variable value) is = (tt, tt)
-    takes' (UseVar number) (UseVar variable) is = (tt, tt)
-    takes' (MakeEntry entry') (MakeEntry entry) is = (tt, tt)
-    takes' (MakeEdge edge') (MakeEdge edge) is = (tt, tt)
-    takes' (MakeJumpTable first names) (MakeJumpTable default entries) is = (tt, tt)
-    takes' (MakeExceptionTable number first listed) (MakeExceptionTable signature normal items) is = (tt, tt)
-    takes' (Annotate inside names) (Annotate within values) is = (tt, tt)
-    takes' (NeedStackMap asked_need) (NeedStackMap need) is = (tt, tt)
-    takes' (Build entries' instruction') (Build entries instruction) is = (tt, tt)
-    takes' (ChangeJumpDestination jump at there) (ChangeJumpDestination branch from to) is = (tt, tt)
-    takes' Finalize Finalize is = (tt, tt)
-    takes' _ _ is = absurd is
 
   pub bare_later : (place further : ℕ) (program : Program) → place ≤ further → IsBareFrom place program → IsBareFrom further program
   bare_later place further program below bare x behind = bare x (omega (arith, below, behind))
@@ -551,10 +509,13 @@ module _ (Known : Reading → List Item → Item → Type 0) (lasts : LastsLater
       let later : Reading = reading_after reading ledger' ledger in
       let longer' : length (ledger_with ledger' ask).answers ≡ suc (length ledger'.answers) = one_longer ledger'.answers (answers_to ledger' ask) in
       let longer : length (ledger_with ledger request).answers ≡ suc (length ledger.answers) = one_longer ledger.answers (answers_to ledger request) in
-      let takes = takes' reading ledger' ledger joined ask request is in
-      let both = asked reading ledger' ledger joined plain program goes ask request is placed in
+      let effect : ReadProgramEffect reading ask request = (read_effects reading ask request is).program in
+      let bare =
+      bare_asked reading ledger' ledger joined plain program (plain_before reading ledger' ledger joined plain program goes) (script_before reading ledger' ledger joined plain program goes)
+      goes.bare' goes.bare ask request effect in
+      let both = asked reading ledger' ledger joined plain program goes ask request effect placed in
       let kept : KeepsOwn later plain (extended plain ask) =
-      λ x own. own_asked reading ledger' ledger joined plain program goes ask request is placed x (Joins.generated_before reading ledger' ledger joined x own) in
+      λ x own. own_asked reading ledger' ledger joined plain program goes ask request effect placed x (Joins.generated_before reading ledger' ledger joined x own) in
       let cut = cut_on later (suc made) plain (extended plain ask) (extended plain ask) (extended program request) kept both in
       let cut_end = cut_on later (suc made) (extended plain ask) (with_call plain ask) (extended plain ask) (extended program request) (λ x own. (refl, refl)) cut in
       record {
@@ -566,15 +527,13 @@ module _ (Known : Reading → List Item → Item → Type 0) (lasts : LastsLater
             (record { entry = cut_end.entry; parameters = cut_end.parameters; items = cut_end.items });
         own = λ x own.
             let before_own = Joins.generated_before reading ledger' ledger joined x own in
-            let same_at = own_asked reading ledger' ledger joined plain program goes ask request is placed x before_own in
+            let same_at = own_asked reading ledger' ledger joined plain program goes ask request effect placed x before_own in
             subst (λ (n : ℕ). IsOwnBlock later n (with_call plain ask) (with_call program request) x) (sym longer)
             (own_later reading later made (suc made) (Joins.goes_on reading ledger' ledger joined) plain program goes.cut (with_call plain ask) (with_call program request) x same_at
-            (λ block item other switch emitted unread there. stays_asked reading ledger' ledger joined plain program goes ask request is block item other switch emitted unread there)
+            (λ block item other switch emitted unread there. stays_asked reading ledger' ledger joined plain program goes ask request effect block item other switch emitted unread there)
             (goes.own x before_own));
-        bare' = bare_later (length ledger'.answers) (length (ledger_with ledger' ask).answers) (with_call plain ask) (omega (arith, longer'))
-            (bare_extended (length ledger'.answers) plain ask (plain_before reading ledger' ledger joined plain program goes) takes.0 goes.bare');
-        bare = bare_later (length ledger.answers) (length (ledger_with ledger request).answers) (with_call program request) (omega (arith, longer))
-            (bare_extended (length ledger.answers) program request (script_before reading ledger' ledger joined plain program goes) takes.1 goes.bare);
+        bare' = bare_later (length ledger'.answers) (length (ledger_with ledger' ask).answers) (with_call plain ask) (omega (arith, longer')) bare.0;
+        bare = bare_later (length ledger.answers) (length (ledger_with ledger request).answers) (with_call program request) (omega (arith, longer)) bare.1;
       }
 
   -- an emission and its code

@@ -1,58 +1,37 @@
 -- Each call more on both sides keeps ledgers joined.
-use Rattle.std.proofs.Common.{◌≡◌, ◌<◌, ◌+◌, ◌==◌, ◌⊎◌, inl, inr, ℕ, zero, suc, Bool, true, false, List, [], ◌∷◌, ◌++◌, length, map, refl, sym, ◌∙◌, ap, ap₂, subst, arith, Option, Some, None}
-use Rattle.std.specs.Prelude.{if◌then◌else◌, option_and_then, option_map, slice_get}
+use Rattle.std.proofs.Common.{◌≡◌, ◌<◌, ◌+◌, ◌==◌, ◌⊎◌, inl, inr, ℕ, zero, suc, Bool, true, false, List, [], ◌∷◌, ◌++◌, length, refl, sym, ◌∙◌, ap, ap₂, subst, arith, Option, Some, None}
+use Rattle.std.specs.Prelude.{if◌then◌else◌, option_and_then, slice_get}
 use Rattle.std.specs.List.{AllZip, cons_option}
 use Rattle.std.proofs.lemmas.Bool.{eq-eqb, eqb-true}
 use Rattle.std.proofs.lemmas.List.{length-append}
-use Rattle.clif_types.specs.declared.types.«Type».{«Type»}
-use Rattle.clif_tables.specs.Entries.{count_for, with_entry}
+use Rattle.clif_tables.specs.Entries.{with_entry}
 use Rattle.clif_meaning.specs.Event.{Tag}
-use Rattle.clif_meaning.specs.Instruction.{Argument, Known, CallResult, CallPayload, Edge, Instruction, Operation}
-use Rattle.clif_meaning.specs.Ledger.{ABlock, AVariable, AValue, AnInstruction, AnEntry, AnEdge, AJumpTable, AnExceptionTable, Answered, BlockState, ExceptionTable, Ledger, VariableState, answer_at, answered_edge, answers_to, changed_by, edge_named, edges_named, edges_of_items, empty_ledger, exception_table, item_context, item_edge, item_kind, ledger_with, new_block, new_variable, next_answer, or_invalid, redirected_state, sealed, touched_at, with_begun, with_cold_mark, with_instruction, with_parameter_types, with_served, with_tried, marked_at, with_need}
+use Rattle.clif_meaning.specs.Instruction.{Edge, Instruction, Operation}
+use Rattle.clif_meaning.specs.Ledger.{ABlock, AVariable, AValue, AnInstruction, AnEntry, AnEdge, AJumpTable, AnExceptionTable, Answered, BlockState, ExceptionTable, Ledger, VariableState, answer_at, answered_edge, answers_to, changed_by, edge_named, edges_named, edges_of_items, empty_ledger, exception_table, item_context, item_edge, item_kind, ledger_with, new_block, next_answer, touched_at, with_begun, with_instruction, with_served, with_tried}
 use Rattle.clif_meaning.specs.Name.{Name, answer_of}
-use Rattle.clif_meaning.specs.Program.{result_types}
-use Rattle.clif_meaning.specs.Request.{Request, CreateBlock, SwitchToBlock, SealBlock, SealAllBlocks, InsertBlockAfter, SetColdBlock, EnsureInsertedBlock, AppendBlockParams, AppendFunctionParams, DeclareVar, DefVar, UseVar, MakeEntry, MakeEdge, MakeJumpTable, MakeExceptionTable, Annotate, GivenEntry, TableItem, TagTo, DefaultTo, InContext, Build, ChangeJumpDestination, Finalize, StackMapNeed, OfVariable, OfValue, NeedStackMap}
+use Rattle.clif_meaning.specs.Request.{Request, CreateBlock, GivenEntry, TableItem, TagTo, DefaultTo, InContext, Build}
 use Rattle.clif_expansion.specs.Expansion.{IsReadBlock}
-use Rattle.clif_expansion.specs.Joining.{AreJoinedStates, AskingKeepsJoins, Both, IsJoined, IsOwnState, IsReadAnswer, IsReadCurrent, IsReadException, IsReadExceptionTable, IsReadLayout, IsReadRequest, IsReadState, IsReadTable, IsReadTableItem, IsUnread, NoMore, NoneLeads, answers_at, reading_after, reading_with, IsReadNeed}
-use Rattle.clif_expansion.specs.Reading.{Generated, IsOneToOne, IsReadArgument, IsReadAs, IsReadEdge, IsReadInstruction, NotMade, Reading, ScriptName, StandsFor}
+use Rattle.clif_expansion.specs.Joining.{AreJoinedStates, AskingKeepsJoins, Both, IsJoined, IsOwnState, IsReadAnswer, IsReadCurrent, IsReadException, IsReadExceptionTable, IsReadLayout, IsReadRequest, IsReadState, IsReadTable, IsReadTableItem, IsUnread, NoMore, NoneLeads, answers_at, reading_after, reading_with}
+use Rattle.clif_expansion.specs.Reading.{Generated, IsOneToOne, IsReadAs, IsReadEdge, IsReadInstruction, NotMade, Reading, ScriptName, StandsFor}
 use Rattle.clif_expansion.specs.Walk.{IsGenerated}
-use Rattle.clif_expansion.proofs.Among.{among_each, among_joined, ended_joined, keeps_cold, keeps_redirecting, keeps_sealing, keeps_taking, leading_later}
-use Rattle.clif_expansion.proofs.JoinedStates.{all_changed, begun_read, built_read, changed_read, maps_same, put_read, redirected_read, served_read, tried_read, zip_each, zip_flattened, zip_joined}
+use Rattle.clif_expansion.proofs.Among.{among_each, among_joined, ended_joined, leading_later}
+use Rattle.clif_expansion.proofs.JoinedStates.{all_changed, begun_read, built_read, changed_read, maps_same, put_read, served_read, tried_read, zip_each, zip_flattened, zip_joined}
 use Rattle.clif_expansion.proofs.Names.{same_script}
+pub use Rattle.clif_expansion.proofs.ReadEffects.{KeepsReading, values_read}
+use Rattle.clif_expansion.proofs.ReadEffects.{ReadEffects, ReadLedgerEffect, BothKeep, BothChange, BothChangeEach, BothBegin, BothVary, BothCreate, BothEnter, BothPut, BothEnlist, BothTable, BothCatch, BothTouch, BothAppend, edge_later, read_effects}
 
 -- A LATER READING ---------------------------------------------------------------------------------------------------------
-
--- what is read later is read as before
-abbrev pub KeepsReading : Reading → Reading → Type 0
-KeepsReading reading later = (x name : Name) → IsReadAs reading x name → IsReadAs later x name
 
 -- what was generated stays so
 abbrev pub KeepsGenerated : Reading → Reading → Type 0
 KeepsGenerated reading later = (x : Name) → reading x ≡ Generated → later x ≡ Generated
 
 module _ (reading later : Reading) (keeps : KeepsReading reading later) where
-  argument_later : (argument' argument : Argument Name) → IsReadArgument reading argument' argument → IsReadArgument later argument' argument
-  argument_later (Known x) (Known name) is = keeps x name is
-  argument_later (CallResult k) (CallResult index) is = is
-  argument_later (CallPayload k) (CallPayload index) is = is
-  argument_later (Known x) (CallResult index) is = absurd is
-  argument_later (Known x) (CallPayload index) is = absurd is
-  argument_later (CallResult k) (Known name) is = absurd is
-  argument_later (CallResult k) (CallPayload index) is = absurd is
-  argument_later (CallPayload k) (Known name) is = absurd is
-  argument_later (CallPayload k) (CallResult index) is = absurd is
-
   pub names_later : (names' names : List Name) → AllZip (IsReadAs reading) names' names → AllZip (IsReadAs later) names' names
   names_later names' names are = zip_each (IsReadAs reading) (IsReadAs later) keeps names' names are
 
-  edge_later : (edge' edge : Edge Name Name) → IsReadEdge reading edge' edge → IsReadEdge later edge' edge
-  edge_later edge' edge is = record {
-    target = keeps edge'.target edge.target is.target;
-    arguments = zip_each (IsReadArgument reading) (IsReadArgument later) argument_later edge'.arguments edge.arguments is.arguments;
-  }
-
   pub edges_later : (edges' edges : List (Edge Name Name)) → AllZip (IsReadEdge reading) edges' edges → AllZip (IsReadEdge later) edges' edges
-  edges_later edges' edges are = zip_each (IsReadEdge reading) (IsReadEdge later) edge_later edges' edges are
+  edges_later edges' edges are = zip_each (IsReadEdge reading) (IsReadEdge later) (edge_later reading later keeps) edges' edges are
 
   pub table_later : (table' table : Option (List (Edge Name Name))) → IsReadTable reading table' table → IsReadTable later table' table
   table_later None None is = tt
@@ -84,7 +63,7 @@ module _ (reading later : Reading) (keeps : KeepsReading reading later) where
   answer_later (Some (AValue t')) (Some (AValue t)) is = is
   answer_later (Some AnInstruction) (Some AnInstruction) is = tt
   answer_later (Some (AnEntry e' n')) (Some (AnEntry e n)) is = is
-  answer_later (Some (AnEdge edge')) (Some (AnEdge edge)) is = edge_later edge' edge is
+  answer_later (Some (AnEdge edge')) (Some (AnEdge edge)) is = edge_later reading later keeps edge' edge is
   answer_later (Some (AJumpTable n')) (Some (AJumpTable n)) is = is
   answer_later (Some (AnExceptionTable n')) (Some (AnExceptionTable n)) is = is
   answer_later _ _ is = absurd is
@@ -189,10 +168,6 @@ at_read reading (a' ∷ answers') [] index are = absurd are
 at_read reading (a' ∷ answers') (a ∷ answers) zero are = are.0
 at_read reading (a' ∷ answers') (a ∷ answers) (suc index) are = at_read reading answers' answers index are.1
 
-pub values_read : (reading : Reading) (types : List «Type») → AllZip (λ a' a. IsReadAnswer reading (Some a') (Some a)) (map AValue types) (map AValue types)
-values_read reading [] = tt
-values_read reading (ty ∷ types) = (refl, values_read reading types)
-
 -- ONE CALL MORE -----------------------------------------------------------------------------------------------------------
 
 -- there is an edge that is read, or none in either
@@ -212,12 +187,6 @@ edge_read reading (Some (AnEdge edge')) (Some (AnEdge edge)) is = is
 edge_read reading (Some (AJumpTable n')) (Some (AJumpTable n)) is = tt
 edge_read reading (Some (AnExceptionTable n')) (Some (AnExceptionTable n)) is = tt
 edge_read reading _ _ is = absurd is
-
-same_length : {X Y : Type 0} (R : X → Y → Type 0) (xs : List X) (ys : List Y) → AllZip R xs ys → length xs ≡ length ys
-same_length R [] [] are = refl
-same_length R [] (y ∷ ys) are = absurd are
-same_length R (x ∷ xs) [] are = absurd are
-same_length R (x ∷ xs) (y ∷ ys) are = ap suc (same_length R xs ys are.1)
 
 -- what an item of an exception table names is read, and the answer to a call depends on it in the same way
 item_edge_read : (reading : Reading) (item' item : TableItem) → IsReadTableItem reading item' item → AllZip (IsReadAs reading) (item_edge item') (item_edge item)
@@ -321,24 +290,6 @@ module _ (reading : Reading) (plain ledger : Ledger) (joined : IsJoined reading 
   abbrev State : BlockState → BlockState → Type 0
   State state' state = IsReadState later (suc here) state' state
 
-  sealed_read : (state' state : BlockState) → State state' state → State (sealed state') (sealed state)
-  sealed_read state' state read = record { block = read.block; parameters = read.parameters; is_pristine = read.is_pristine; is_filled = read.is_filled; is_sealed = refl; is_cold = read.is_cold; predecessors = read.predecessors }
-
-  cold_read : (state' state : BlockState) → State state' state → State (with_cold_mark state') (with_cold_mark state)
-  cold_read state' state read = record { block = read.block; parameters = read.parameters; is_pristine = read.is_pristine; is_filled = read.is_filled; is_sealed = read.is_sealed; is_cold = refl; predecessors = read.predecessors }
-
-  taking_read : (types' types : List «Type») → types' ≡ types → (state' state : BlockState) → State state' state
-      → State (with_parameter_types types' state') (with_parameter_types types state)
-  taking_read types' types same state' state read = record {
-    block = read.block;
-    parameters = ap₂ (λ (a b : List «Type»). a ++ b) read.parameters same;
-    is_pristine = read.is_pristine;
-    is_filled = read.is_filled;
-    is_sealed = read.is_sealed;
-    is_cold = read.is_cold;
-    predecessors = read.predecessors;
-  }
-
   abbrev Joined : Ledger → Ledger → Type 0
   Joined a b = AreJoinedStates later (suc here) a b
 
@@ -405,43 +356,54 @@ module _ (reading : Reading) (plain ledger : Ledger) (joined : IsJoined reading 
       (subst (λ (es : List GivenEntry). AllZip (IsReadException later) (with_tried plain.exception_tables es) (with_tried ledger.exception_tables entries)) (sym same)
       (tried_read later entries plain.exception_tables ledger.exception_tables states.exception_tables))
 
-  needed : (asked need : StackMapNeed) → IsReadNeed reading asked need → with_need asked plain.variables ≡ with_need need ledger.variables
-  needed (OfVariable number) (OfVariable variable) is = ap₂ marked_at is states.variables
-  needed (OfValue x) (OfValue value) is = states.variables
-  needed (OfVariable number) (OfValue value) is = absurd is
-  needed (OfValue x) (OfVariable variable) is = absurd is
+  -- a block that is created is no other one
+  other_block : (x : Name) → (reading x ≡ NotMade → ⊥) → (stands : StandsFor) → reading x ≡ stands → next_answer plain ≡ x → ⊥
+  other_block x some NotMade was same = some was
+  other_block x some Generated was same =
+      let below = joined.generated x was in
+      let place : here' ≡ x.place = ap (λ (n : Name). n.place) same in
+      absurd (omega (arith, below, place))
+  other_block x some (ScriptName name) was same =
+      let below = (joined.made x name was).0 in
+      let place : here' ≡ x.place = ap (λ (n : Name). n.place) same in
+      absurd (omega (arith, below, place))
 
-  changed : (asked request : Request) → IsReadRequest reading asked request → Joined (changed_by plain asked) (changed_by ledger request)
-  changed CreateBlock CreateBlock is =
-      record {
-        blocks = among_joined State (IsOwnState later) plain.blocks (new_block (next_answer plain) ∷ []) ledger.blocks (new_block (next_answer ledger) ∷ []) states.blocks
-            (Both _ _ [] [] (record { block = next_read; parameters = refl; is_pristine = refl; is_filled = refl; is_sealed = refl; is_cold = refl; predecessors = NoneLeads }) NoMore);
-        current = created plain.current ledger.current joined.ledgers.states.current states.current;
-        layout = states.layout;
-        variables = states.variables;
-        jump_tables = states.jump_tables;
-        exception_tables = states.exception_tables;
-        tables = states.tables;
-      }
-    where
-      other : (x : Name) → (reading x ≡ NotMade → ⊥) → (stands : StandsFor) → reading x ≡ stands → next_answer plain ≡ x → ⊥
-      other x some NotMade was same = some was
-      other x some Generated was same =
-          let below = joined.generated x was in
-          let place : here' ≡ x.place = ap (λ (n : Name). n.place) same in
-          absurd (omega (arith, below, place))
-      other x some (ScriptName name) was same =
-          let below = (joined.made x name was).0 in
-          let place : here' ≡ x.place = ap (λ (n : Name). n.place) same in
-          absurd (omega (arith, below, place))
+  created_current : (current' current : Option Name) → IsReadCurrent reading plain current' current → IsReadCurrent later plain current' current
+      → IsReadCurrent later (record plain { blocks = plain.blocks ++ new_block (next_answer plain) ∷ [] }) current' current
+  created_current None None was is = tt
+  created_current (Some x) (Some block) was is = is
+  created_current (Some x) None was is =
+      (is.0, ended_joined x plain.blocks (new_block (next_answer plain) ∷ []) plain.layout (λ same. absurd (other_block x was.0 (reading x) refl same), tt) is.1)
+  created_current None (Some block) was is = absurd is
 
-      created : (current' current : Option Name) → IsReadCurrent reading plain current' current → IsReadCurrent later plain current' current
-          → IsReadCurrent later (record plain { blocks = plain.blocks ++ new_block (next_answer plain) ∷ [] }) current' current
-      created None None was is = tt
-      created (Some x) (Some block) was is = is
-      created (Some x) None was is = (is.0, ended_joined x plain.blocks (new_block (next_answer plain) ∷ []) plain.layout (λ same. absurd (other x was.0 (reading x) refl same), tt) is.1)
-      created None (Some block) was is = absurd is
-  changed (SwitchToBlock x) (SwitchToBlock block) is = record {
+  created : Joined (changed_by plain CreateBlock) (changed_by ledger CreateBlock)
+  created = record {
+    blocks = among_joined State (IsOwnState later) plain.blocks (new_block (next_answer plain) ∷ []) ledger.blocks (new_block (next_answer ledger) ∷ []) states.blocks
+        (Both _ _ [] [] (record { block = next_read; parameters = refl; is_pristine = refl; is_filled = refl; is_sealed = refl; is_cold = refl; predecessors = NoneLeads }) NoMore);
+    current = created_current plain.current ledger.current joined.ledgers.states.current states.current;
+    layout = states.layout;
+    variables = states.variables;
+    jump_tables = states.jump_tables;
+    exception_tables = states.exception_tables;
+    tables = states.tables;
+  }
+
+  of_ledgers : (a b a' b' : Ledger) → a' ≡ a → b' ≡ b → Joined a b → Joined a' b'
+  of_ledgers a b a' b' same' same are = subst (λ (l : Ledger). Joined l b') (sym same') (subst (λ (l : Ledger). Joined a l) (sym same) are)
+
+  changed_so : (asked request : Request) → ReadLedgerEffect reading asked request → Joined (changed_by plain asked) (changed_by ledger request)
+  changed_so asked request (BothKeep a r is' is) = of_ledgers plain ledger _ _ (is' plain) (is ledger) states
+  changed_so asked request (BothChange a r x block change' change read ends respects is' is) =
+      of_ledgers _ _ _ _ (is' plain) (is ledger)
+      (changed_read later (suc here) one_to_one plain ledger x block change' change states (keeps x block read) ends (respects later (suc here) keeps one_to_one))
+  changed_so asked request (BothChangeEach a r change' change ends respects is' is) =
+      of_ledgers _ _ _ _ (is' plain) (is ledger)
+      (all_changed later (suc here) one_to_one plain ledger change' change states ends (respects later (suc here) keeps one_to_one))
+  changed_so asked request (BothBegin a r is' is) = of_ledgers _ _ _ _ (is' plain) (is ledger) (begun_read later (suc here) one_to_one plain ledger states)
+  changed_so asked request (BothVary a r change' change same is' is) =
+      of_ledgers _ _ _ _ (is' plain) (is ledger) (with_variables plain ledger _ _ states (same plain.variables ∙ ap change states.variables))
+  changed_so asked request BothCreate = created
+  changed_so asked request (BothEnter x block is) = record {
     blocks = states.blocks;
     current = keeps x block is;
     layout = states.layout;
@@ -450,27 +412,9 @@ module _ (reading : Reading) (plain ledger : Ledger) (joined : IsJoined reading 
     exception_tables = states.exception_tables;
     tables = states.tables;
   }
-  changed (SealBlock x) (SealBlock block) is = changed_read later (suc here) one_to_one plain ledger x block sealed sealed states (keeps x block is) keeps_sealing sealed_read
-  changed SealAllBlocks SealAllBlocks is =
-      all_changed later (suc here) one_to_one plain ledger sealed sealed states keeps_sealing sealed_read
-  changed (InsertBlockAfter x behind) (InsertBlockAfter block after) is =
-      put_read later (suc here) one_to_one plain ledger x block behind after states (keeps x block is.0) (keeps behind after is.1)
-  changed (SetColdBlock x) (SetColdBlock block) is = changed_read later (suc here) one_to_one plain ledger x block with_cold_mark with_cold_mark states (keeps x block is) keeps_cold cold_read
-  changed EnsureInsertedBlock EnsureInsertedBlock is = begun_read later (suc here) one_to_one plain ledger states
-  changed (AppendBlockParams x types') (AppendBlockParams block types) is =
-      changed_read later (suc here) one_to_one plain ledger x block (with_parameter_types types') (with_parameter_types types) states (keeps x block is.0) (keeps_taking types')
-      (taking_read types' types is.1)
-  changed (AppendFunctionParams x types') (AppendFunctionParams block types) is =
-      changed_read later (suc here) one_to_one plain ledger x block (with_parameter_types types') (with_parameter_types types) states (keeps x block is.0) (keeps_taking types')
-      (taking_read types' types is.1)
-  changed (DeclareVar ty') (DeclareVar ty) is =
-      with_variables plain ledger _ _ states (ap₂ (λ (variables : List VariableState) (ty : «Type»). variables ++ new_variable ty ∷ []) states.variables is)
-  changed (DefVar number x) (DefVar variable value) is =
-      with_variables plain ledger _ _ states (ap₂ touched_at is.0 states.variables)
-  changed (UseVar number) (UseVar variable) is =
-      let begun = begun_read later (suc here) one_to_one plain ledger states in
-      with_variables (with_begun plain) (with_begun ledger) _ _ begun (ap₂ touched_at is begun.variables)
-  changed (MakeEntry entry') (MakeEntry entry) is = record {
+  changed_so asked request (BothPut x block behind after is at) =
+      put_read later (suc here) one_to_one plain ledger x block behind after states (keeps x block is) (keeps behind after at)
+  changed_so asked request (BothEnlist entry' entry is) = record {
     blocks = states.blocks;
     current = states.current;
     layout = states.layout;
@@ -479,54 +423,17 @@ module _ (reading : Reading) (plain ledger : Ledger) (joined : IsJoined reading 
     exception_tables = states.exception_tables;
     tables = ap₂ with_entry states.tables is;
   }
-  changed (MakeEdge edge') (MakeEdge edge) is = states
-  changed (MakeJumpTable first names) (MakeJumpTable default entries) is =
+  changed_so asked request (BothTable first default names entries are) =
       with_tables plain ledger _ _ states (zip_joined (IsReadTable later) plain.jump_tables (Some (edges_named plain (first ∷ names)) ∷ []) ledger.jump_tables (Some (edges_named ledger (default ∷ entries)) ∷ []) states.jump_tables
-      (edges_later reading later keeps (edges_named plain (first ∷ names)) (edges_named ledger (default ∷ entries)) (edges_read (first ∷ names) (default ∷ entries) is), tt))
-  changed (MakeExceptionTable number first listed) (MakeExceptionTable signature normal items) is =
+      (edges_later reading later keeps (edges_named plain (first ∷ names)) (edges_named ledger (default ∷ entries)) (edges_read (first ∷ names) (default ∷ entries) are), tt))
+  changed_so asked request (BothCatch number signature first normal listed items same is are) =
       with_exceptions plain ledger _ _ states (zip_joined (IsReadException later) plain.exception_tables (Some (exception_table plain number first listed) ∷ [])
       ledger.exception_tables (Some (exception_table ledger signature normal items) ∷ []) states.exception_tables
-      (table_read number signature first normal listed items is.0 is.1 is.2, tt))
-  changed (Annotate inside names) (Annotate within values) is = states
-  changed (NeedStackMap asked_need) (NeedStackMap need) is = with_variables plain ledger _ _ states (needed asked_need need is)
-  changed (Build entries' instruction') (Build entries instruction) is = built entries' entries instruction' instruction is.0 is.1
-  changed (ChangeJumpDestination jump at there) (ChangeJumpDestination branch from to) is =
-      all_changed later (suc here) one_to_one plain ledger (redirected_state jump at there) (redirected_state branch from to) states (keeps_redirecting jump at there)
-      (redirected_read later (suc here) one_to_one jump branch at from there to (keeps jump branch is.0) (keeps at from is.1) (keeps there to is.2))
-  changed Finalize Finalize is = states
-  changed _ _ is = absurd is
-
-  abbrev AreAnswers : List Answered → List Answered → Type 0
-  AreAnswers answers' answers = AllZip (λ a' a. IsReadAnswer later (Some a') (Some a)) answers' answers
-
-  types_given : (types' types : List «Type») → types' ≡ types → AreAnswers (map AValue types') (map AValue types)
-  types_given types' types same = subst (λ (ts : List «Type»). AreAnswers (map AValue ts) (map AValue types)) (sym same) (values_read later types)
-
-  answered : (asked request : Request) → IsReadRequest reading asked request → AreAnswers (answers_to plain asked) (answers_to ledger request)
-  answered CreateBlock CreateBlock is = (tt, tt)
-  answered (SwitchToBlock x) (SwitchToBlock block) is = tt
-  answered (SealBlock x) (SealBlock block) is = tt
-  answered SealAllBlocks SealAllBlocks is = tt
-  answered (InsertBlockAfter x behind) (InsertBlockAfter block after) is = tt
-  answered (SetColdBlock x) (SetColdBlock block) is = tt
-  answered EnsureInsertedBlock EnsureInsertedBlock is = tt
-  answered (AppendBlockParams x types') (AppendBlockParams block types) is = types_given types' types is.1
-  answered (AppendFunctionParams x types') (AppendFunctionParams block types) is = types_given types' types is.1
-  answered (DeclareVar ty') (DeclareVar ty) is = (ap (λ (variables : List VariableState). length variables) states.variables, tt)
-  answered (DefVar number x) (DefVar variable value) is = tt
-  answered (UseVar number) (UseVar variable) is =
-      (ap₂ (λ (variables : List VariableState) (v : ℕ). or_invalid (option_map (λ (state : VariableState). state.ty) (slice_get variables v))) states.variables is, tt)
-  answered (MakeEntry entry') (MakeEntry entry) is = ((is, ap₂ count_for states.tables is), tt)
-  answered (MakeEdge edge') (MakeEdge edge) is = (edge_later reading later keeps edge' edge is, tt)
-  answered (MakeJumpTable first names) (MakeJumpTable default entries) is = (same_length (IsReadTable later) plain.jump_tables ledger.jump_tables states.jump_tables, tt)
-  answered (MakeExceptionTable number first listed) (MakeExceptionTable signature normal items) is =
-      (same_length (IsReadException later) plain.exception_tables ledger.exception_tables states.exception_tables, tt)
-  answered (Annotate inside names) (Annotate within values) is = tt
-  answered (NeedStackMap asked_need) (NeedStackMap need) is = tt
-  answered (Build entries' instruction') (Build entries instruction) is = (tt, types_given _ _ (ap₂ result_types is.1.operation is.1.controlling))
-  answered (ChangeJumpDestination jump at there) (ChangeJumpDestination branch from to) is = tt
-  answered Finalize Finalize is = tt
-  answered _ _ is = absurd is
+      (table_read number signature first normal listed items same is are, tt))
+  changed_so asked request (BothTouch number variable is) =
+      let begun = begun_read later (suc here) one_to_one plain ledger states in
+      with_variables (with_begun plain) (with_begun ledger) _ _ begun (ap₂ touched_at is begun.variables)
+  changed_so asked request (BothAppend entries' entries instruction' instruction same is) = built entries' entries instruction' instruction same is
 
   one_longer : (answers : List (List Answered)) (more : List Answered) → length (answers ++ more ∷ []) ≡ length answers + 1
   one_longer answers more = length-append answers (more ∷ [])
@@ -536,6 +443,9 @@ module _ (reading : Reading) (plain ledger : Ledger) (joined : IsJoined reading 
   longer_by_one (given ∷ answers) more = ap suc (longer_by_one answers more)
 
   module _ (asked request : Request) (is : IsReadRequest reading asked request) where
+    effects : ReadEffects reading asked request
+    effects = read_effects reading asked request is
+
     abbrev after' : Ledger
     after' = ledger_with plain asked
 
@@ -553,7 +463,7 @@ module _ (reading : Reading) (plain ledger : Ledger) (joined : IsJoined reading 
             (subst (λ (z : Name). IsReadAnswer later (answer_at after' (answer_of here' x.index)) (answer_at after z)) name_is
             (subst (λ (answer : Option Answered). IsReadAnswer later answer (answer_at after (answer_of here x.index))) (sym (answers_last plain.answers (answers_to plain asked) x.index))
             (subst (λ (answer : Option Answered). IsReadAnswer later (slice_get (answers_to plain asked) x.index) answer) (sym (answers_last ledger.answers (answers_to ledger request) x.index))
-            (at_read later (answers_to plain asked) (answers_to ledger request) x.index (answered asked request is)))))
+            (at_read later (answers_to plain asked) (answers_to ledger request) x.index (effects.answers later (suc here) plain ledger keeps states)))))
         by (inr old) =
             let both = joined.made x name old in
             subst (λ (answer : Option Answered). IsReadAnswer later answer (answer_at after name)) (sym (answers_before plain.answers (answers_to plain asked) x.place x.index both.0))
@@ -581,7 +491,7 @@ module _ (reading : Reading) (plain ledger : Ledger) (joined : IsJoined reading 
 
     pub asked_joined : IsJoined later after' after
     asked_joined =
-        let s = changed asked request is in
+        let s = changed_so asked request effects.ledger in
         record {
           ledgers = record {
             states = subst (λ (n : ℕ). AreJoinedStates later n after' after) (sym (longer_by_one ledger.answers (answers_to ledger request))) (record { blocks = s.blocks; current = s.current; layout = s.layout; variables = s.variables; jump_tables = s.jump_tables; exception_tables = s.exception_tables; tables = s.tables });

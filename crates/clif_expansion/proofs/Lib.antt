@@ -46,3 +46,4 @@ pub mod JoinedRuns
 pub mod PerformedConstants
 pub mod JoinedRunExamples
 pub mod calls
+pub mod ReadEffects
