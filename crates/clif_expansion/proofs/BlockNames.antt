@@ -3,10 +3,11 @@ use Rattle.std.proofs.Common.{◌≡◌, ◌<◌, ◌≤◌, ℕ, suc, Bool, tru
 use Rattle.std.specs.Prelude.{IsTrue, find, fold, if◌then◌else◌, is_some}
 use Rattle.std.specs.List.{AllByRecursion}
 use Rattle.clif_meaning.specs.Instruction.{Edge, Instruction, Operation}
-use Rattle.clif_meaning.specs.Ledger.{BlockState, Ledger, answers_to, changed_by, empty_ledger, is_inserted, is_terminator, led_by, ledger_after, ledger_with, new_block, next_answer, redirected_state, sealed, state_has, with_begun, with_begun_at, with_cold_mark, with_filled_at, with_instruction, with_parameter_types, with_predecessor, with_terminator}
+use Rattle.clif_meaning.specs.Ledger.{BlockState, Ledger, answers_to, changed_by, empty_ledger, is_inserted, is_terminator, led_by, ledger_after, ledger_with, new_block, next_answer, state_has, with_begun, with_begun_at, with_filled_at, with_instruction, with_predecessor, with_terminator}
 use Rattle.clif_meaning.specs.Name.{Name, same_name}
-use Rattle.clif_meaning.specs.Request.{Request, CreateBlock, SwitchToBlock, SealBlock, SealAllBlocks, InsertBlockAfter, SetColdBlock, EnsureInsertedBlock, AppendBlockParams, AppendFunctionParams, DeclareVar, DefVar, UseVar, MakeEntry, MakeEdge, MakeJumpTable, MakeExceptionTable, Annotate, NeedStackMap, Build, ChangeJumpDestination, Finalize, Script}
-use Rattle.clif_expansion.proofs.Among.{KeepsEnds, changed_at, keeps_at, keeps_beginning, keeps_cold, keeps_filling, keeps_leading, keeps_redirecting, keeps_sealing, keeps_taking}
+use Rattle.clif_meaning.specs.Request.{Request, CreateBlock, Script}
+use Rattle.clif_meaning.proofs.Effects.{MakesNoBlock, LedgerEffect, ledger_effect, Keeps, Lays, Changes, Begins, Creates, Enters, ChangesEach, Declares, Touches, Reads, Marks, Appends}
+use Rattle.clif_expansion.proofs.Among.{changed_at, keeps_leading}
 use Rattle.clif_expansion.proofs.EmittedPrograms.{one_longer}
 use Rattle.clif_expansion.proofs.Names.{equal_names, names_equal}
 
@@ -15,31 +16,40 @@ names_of states = map (λ state. state.block) states
 
 -- CALLS KEEP NAMES --------------------------------------------------------------------------------------------------------
 
-mapped_names : (change : BlockState → BlockState) → KeepsEnds change → (states : List BlockState) → names_of (map change states) ≡ names_of states
+mapped_names : (change : BlockState → BlockState) → ((state : BlockState) → (change state).block ≡ state.block) → (states : List BlockState) → names_of (map change states) ≡ names_of states
 mapped_names change keeps [] = refl
-mapped_names change keeps (state ∷ states) = ap₂ (λ (first : Name) (rest : List Name). first ∷ rest) (keeps.block state) (mapped_names change keeps states)
+mapped_names change keeps (state ∷ states) = ap₂ (λ (first : Name) (rest : List Name). first ∷ rest) (keeps state) (mapped_names change keeps states)
+
+-- one block's state changed
+names_at : (block : Name) (change : BlockState → BlockState) → ((state : BlockState) → (change state).block ≡ state.block) → (states : List BlockState)
+    → names_of (map (changed_at block change) states) ≡ names_of states
+names_at block change keeps states = mapped_names (changed_at block change) (λ state. by (same_name state.block block) state) states
+  where
+    by : (c : Bool) (state : BlockState) → (if c then change state else state).block ≡ state.block
+    by true state = keeps state
+    by false state = refl
 
 begun_names : (ledger : Ledger) (current : Option Name) → names_of (with_begun_at ledger current).blocks ≡ names_of ledger.blocks
 begun_names ledger None = refl
 begun_names ledger (Some block) = by (is_inserted ledger block)
   where
     by : (c : Bool) → names_of (map (changed_at block (λ state. record state { is_pristine = false })) (if c then ledger else record ledger { layout = ledger.layout ++ block ∷ [] }).blocks) ≡ names_of ledger.blocks
-    by true = mapped_names (changed_at block (λ state. record state { is_pristine = false })) (keeps_at block (λ state. record state { is_pristine = false }) keeps_beginning) ledger.blocks
-    by false = mapped_names (changed_at block (λ state. record state { is_pristine = false })) (keeps_at block (λ state. record state { is_pristine = false }) keeps_beginning) ledger.blocks
+    by true = names_at block (λ state. record state { is_pristine = false }) (λ state. refl) ledger.blocks
+    by false = names_at block (λ state. record state { is_pristine = false }) (λ state. refl) ledger.blocks
 
 ended_names : (ledger : Ledger) (operation : Operation) → names_of (with_terminator ledger operation).blocks ≡ names_of ledger.blocks
 ended_names ledger operation = by (is_terminator operation) ledger.current
   where
     by : (c : Bool) (current : Option Name) → names_of (if c then with_filled_at ledger current else ledger).blocks ≡ names_of ledger.blocks
     by true None = refl
-    by true (Some block) = mapped_names (changed_at block (λ state. record state { is_filled = true })) (keeps_at block (λ state. record state { is_filled = true }) keeps_filling) ledger.blocks
+    by true (Some block) = names_at block (λ state. record state { is_filled = true }) (λ state. refl) ledger.blocks
     by false current = refl
 
 led_names : (branch : Name) (ledger : Ledger) (edges : List (Edge Name Name)) → names_of (fold (with_predecessor branch) ledger edges).blocks ≡ names_of ledger.blocks
 led_names branch ledger [] = refl
 led_names branch ledger (edge ∷ edges) =
     led_names branch (with_predecessor branch ledger edge) edges
-    ∙ mapped_names (changed_at edge.target (led_by branch)) (keeps_at edge.target (led_by branch) (keeps_leading branch)) ledger.blocks
+    ∙ names_at edge.target (led_by branch) (keeps_leading branch).block ledger.blocks
 
 instruction_names : (ledger : Ledger) (instruction : Instruction Name Name) → names_of (with_instruction ledger instruction).blocks ≡ names_of ledger.blocks
 instruction_names ledger instruction =
@@ -58,31 +68,34 @@ new_names : (states : List BlockState) (block : Name) → names_of (states ++ ne
 new_names [] block = refl
 new_names (state ∷ states) block = ap (λ (rest : List Name). state.block ∷ rest) (new_names states block)
 
+-- a call that makes no block keeps them
+kept_names : (ledger : Ledger) (request : Request) → MakesNoBlock request → names_of (changed_by ledger request).blocks ≡ names_of ledger.blocks
+kept_names ledger request made = by (ledger_effect request)
+  where
+    of_ledger : (other : Ledger) → changed_by ledger request ≡ other → names_of other.blocks ≡ names_of ledger.blocks → names_of (changed_by ledger request).blocks ≡ names_of ledger.blocks
+    of_ledger other is same = ap (λ (l : Ledger). names_of l.blocks) is ∙ same
+
+    of_request : (other : Request) → request ≡ other → names_of (changed_by ledger other).blocks ≡ names_of ledger.blocks
+        → names_of (changed_by ledger request).blocks ≡ names_of ledger.blocks
+    of_request other is same = ap (λ (r : Request). names_of (changed_by ledger r).blocks) is ∙ same
+
+    by : LedgerEffect request → names_of (changed_by ledger request).blocks ≡ names_of ledger.blocks
+    by (Keeps stays is) = of_ledger _ (is ledger) refl
+    by (Lays layout tables jump_tables exception_tables stays is) = of_ledger _ (is ledger) refl
+    by (Changes block change keeps stays is) = of_ledger _ (is ledger) (names_at block change keeps.name ledger.blocks)
+    by (Begins stays is) = of_ledger _ (is ledger) (begun_names ledger ledger.current)
+    by (Creates is) = absurd (subst MakesNoBlock is made)
+    by (Enters block is) = of_request _ is refl
+    by (ChangesEach change keeps stays is) = of_ledger _ (is ledger) (mapped_names change keeps.name ledger.blocks)
+    by (Declares ty is) = of_request _ is refl
+    by (Touches variable value is) = of_request _ is refl
+    by (Reads variable is) = of_request _ is (begun_names ledger ledger.current)
+    by (Marks need is) = of_request _ is refl
+    by (Appends entries instruction is) = of_request _ is (instruction_names ledger instruction)
+
 pub asked_names : (ledger : Ledger) (request : Request) → names_of (changed_by ledger request).blocks ≡ names_of ledger.blocks ++ created ledger request
 asked_names ledger CreateBlock = new_names ledger.blocks (next_answer ledger)
-asked_names ledger (SealBlock block) = none_more _ (names_of ledger.blocks) (mapped_names (changed_at block sealed) (keeps_at block sealed keeps_sealing) ledger.blocks)
-asked_names ledger SealAllBlocks = none_more _ (names_of ledger.blocks) (mapped_names sealed keeps_sealing ledger.blocks)
-asked_names ledger (SetColdBlock block) = none_more _ (names_of ledger.blocks) (mapped_names (changed_at block with_cold_mark) (keeps_at block with_cold_mark keeps_cold) ledger.blocks)
-asked_names ledger EnsureInsertedBlock = none_more _ (names_of ledger.blocks) (begun_names ledger ledger.current)
-asked_names ledger (AppendBlockParams block types) =
-    none_more _ (names_of ledger.blocks) (mapped_names (changed_at block (with_parameter_types types)) (keeps_at block (with_parameter_types types) (keeps_taking types)) ledger.blocks)
-asked_names ledger (AppendFunctionParams block types) =
-    none_more _ (names_of ledger.blocks) (mapped_names (changed_at block (with_parameter_types types)) (keeps_at block (with_parameter_types types) (keeps_taking types)) ledger.blocks)
-asked_names ledger (UseVar variable) = none_more _ (names_of ledger.blocks) (begun_names ledger ledger.current)
-asked_names ledger (Build entries instruction) = none_more _ (names_of ledger.blocks) (instruction_names ledger instruction)
-asked_names ledger (ChangeJumpDestination branch from to) =
-    none_more _ (names_of ledger.blocks) (mapped_names (redirected_state branch from to) (keeps_redirecting branch from to) ledger.blocks)
-asked_names ledger (SwitchToBlock block) = none_more _ (names_of ledger.blocks) refl
-asked_names ledger (InsertBlockAfter block after) = none_more _ (names_of ledger.blocks) refl
-asked_names ledger (DeclareVar ty) = none_more _ (names_of ledger.blocks) refl
-asked_names ledger (DefVar variable value) = none_more _ (names_of ledger.blocks) refl
-asked_names ledger (MakeEntry entry) = none_more _ (names_of ledger.blocks) refl
-asked_names ledger (MakeEdge edge) = none_more _ (names_of ledger.blocks) refl
-asked_names ledger (MakeJumpTable default entries) = none_more _ (names_of ledger.blocks) refl
-asked_names ledger (MakeExceptionTable signature normal items) = none_more _ (names_of ledger.blocks) refl
-asked_names ledger (Annotate inside values) = none_more _ (names_of ledger.blocks) refl
-asked_names ledger (NeedStackMap need) = none_more _ (names_of ledger.blocks) refl
-asked_names ledger Finalize = none_more _ (names_of ledger.blocks) refl
+asked_names ledger request = none_more _ (names_of ledger.blocks) (kept_names ledger request tt)
 
 -- APART -------------------------------------------------------------------------------------------------------------------
 

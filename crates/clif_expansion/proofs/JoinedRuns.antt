@@ -7,9 +7,9 @@ use Rattle.clif_meaning.specs.FunctionView.{FunctionView}
 use Rattle.clif_meaning.specs.Headline.{in_spill_slot, script_run}
 use Rattle.clif_meaning.specs.Instruction.{Instruction}
 use Rattle.clif_meaning.specs.Ledger.{Ledger, VariableState, answers_to, empty_ledger, is_marked, ledger_after, ledger_with, marked, or_invalid, type_of}
-use Rattle.clif_meaning.specs.Name.{Name, answer_of}
+use Rattle.clif_meaning.specs.Name.{Name}
 use Rattle.clif_meaning.specs.Program.{Program, Item, empty_program, program_of, with_call}
-use Rattle.clif_meaning.specs.Request.{Request, CreateBlock, SwitchToBlock, SealBlock, SealAllBlocks, InsertBlockAfter, SetColdBlock, EnsureInsertedBlock, AppendBlockParams, AppendFunctionParams, DeclareVar, DefVar, UseVar, MakeEntry, MakeEdge, MakeJumpTable, MakeExceptionTable, Annotate, Build, ChangeJumpDestination, Finalize, Script, OfVariable, OfValue, NeedStackMap}
+use Rattle.clif_meaning.specs.Request.{Request, CreateBlock, SwitchToBlock, SealBlock, MakeEdge, MakeJumpTable, Build, Script}
 use Rattle.clif_meaning.specs.Tracked.{tracked_by, tracked_from}
 use Rattle.clif_meaning.specs.World.{World}
 use Rattle.clif_expansion.specs.Code.{DecidesItem, Does, NameTypes, PerformsItem}
@@ -31,7 +31,7 @@ use Rattle.clif_expansion.proofs.GivenCalls.{given_ledger}
 use Rattle.clif_expansion.proofs.Imports.{importing_before, importing_longer}
 use Rattle.clif_expansion.proofs.JoinedCalls.{calls_made, current_read, fold_on, joined_calls}
 use Rattle.clif_expansion.proofs.JoinedPrograms.{IsCalledSo, LastsIn, LastsLater, cut_each}
-use Rattle.clif_expansion.proofs.JoinedStates.{any_read, chosen, zip_joined}
+use Rattle.clif_expansion.proofs.JoinedStates.{any_read, zip_joined}
 use Rattle.clif_expansion.proofs.Joins
 use Rattle.clif_expansion.proofs.Joins.{KeepsReading, names_later, read_there}
 use Rattle.clif_expansion.proofs.LaidCodes
@@ -40,6 +40,7 @@ use Rattle.clif_expansion.proofs.LaterCodes.{item_decides_later, item_performed_
 use Rattle.clif_expansion.proofs.LedgerTypes.{call_types_before, types_before}
 use Rattle.clif_expansion.proofs.ProgramsOfCalls.{EachKnown, currents_same, go, joined_bare, script_place}
 use Rattle.clif_expansion.proofs.ReadConditions
+use Rattle.clif_expansion.proofs.ReadEffects.{read_effects}
 use Rattle.clif_expansion.proofs.Same
 use Rattle.clif_expansion.proofs.SwitchCodes
 
@@ -214,36 +215,9 @@ module _ (marks' marks : Ledger) (same : (v : ℕ) → is_marked marks' v ≡ is
   -- what a call tracks is read as what the script's call tracks
   call_tracks : (reading : Reading) (ledger' ledger : Ledger) (joined : IsJoined reading ledger' ledger) (ask request : Request) → IsReadRequest reading ask request
       → AllZip (IsReadAs (reading_after reading ledger' ledger)) (tracked_by marks' (length ledger'.answers) ask) (tracked_by marks (length ledger.answers) request)
-  call_tracks reading ledger' ledger joined (DefVar number x) (DefVar variable value) is =
-      chosen (AllZip (IsReadAs (reading_after reading ledger' ledger))) (is_marked marks' number) (is_marked marks variable) (x ∷ []) [] (value ∷ []) []
-      (same number ∙ ap (is_marked marks) is.0) (Joins.keeps reading ledger' ledger joined x value is.1, tt) tt
-  call_tracks reading ledger' ledger joined (UseVar number) (UseVar variable) is =
-      chosen (AllZip (IsReadAs (reading_after reading ledger' ledger))) (is_marked marks' number) (is_marked marks variable)
-      (answer_of (length ledger'.answers) 0 ∷ []) [] (answer_of (length ledger.answers) 0 ∷ []) []
-      (same number ∙ ap (is_marked marks) is) (read_there reading (length ledger'.answers) 0 (answers_at (length ledger.answers)), tt) tt
-  call_tracks reading ledger' ledger joined CreateBlock CreateBlock is = tt
-  call_tracks reading ledger' ledger joined (SwitchToBlock x) (SwitchToBlock block) is = tt
-  call_tracks reading ledger' ledger joined (SealBlock x) (SealBlock block) is = tt
-  call_tracks reading ledger' ledger joined SealAllBlocks SealAllBlocks is = tt
-  call_tracks reading ledger' ledger joined (InsertBlockAfter x behind) (InsertBlockAfter block after) is = tt
-  call_tracks reading ledger' ledger joined (SetColdBlock x) (SetColdBlock block) is = tt
-  call_tracks reading ledger' ledger joined EnsureInsertedBlock EnsureInsertedBlock is = tt
-  call_tracks reading ledger' ledger joined (AppendBlockParams x types') (AppendBlockParams block types) is = tt
-  call_tracks reading ledger' ledger joined (AppendFunctionParams x types') (AppendFunctionParams block types) is = tt
-  call_tracks reading ledger' ledger joined (DeclareVar ty') (DeclareVar ty) is = tt
-  call_tracks reading ledger' ledger joined (MakeEntry entry') (MakeEntry entry) is = tt
-  call_tracks reading ledger' ledger joined (MakeEdge edge') (MakeEdge edge) is = tt
-  call_tracks reading ledger' ledger joined (MakeJumpTable first names) (MakeJumpTable default entries) is = tt
-  call_tracks reading ledger' ledger joined (MakeExceptionTable number first listed) (MakeExceptionTable signature normal items) is = tt
-  call_tracks reading ledger' ledger joined (Annotate inside names) (Annotate within values) is = tt
-  call_tracks reading ledger' ledger joined (NeedStackMap (OfVariable number)) (NeedStackMap (OfVariable variable)) is = tt
-  call_tracks reading ledger' ledger joined (NeedStackMap (OfValue x)) (NeedStackMap (OfValue value)) is = (Joins.keeps reading ledger' ledger joined x value is, tt)
-  call_tracks reading ledger' ledger joined (NeedStackMap (OfVariable number)) (NeedStackMap (OfValue value)) is = absurd is
-  call_tracks reading ledger' ledger joined (NeedStackMap (OfValue x)) (NeedStackMap (OfVariable variable)) is = absurd is
-  call_tracks reading ledger' ledger joined (Build entries' instruction') (Build entries instruction) is = tt
-  call_tracks reading ledger' ledger joined (ChangeJumpDestination jump at there) (ChangeJumpDestination branch from to) is = tt
-  call_tracks reading ledger' ledger joined Finalize Finalize is = tt
-  call_tracks reading ledger' ledger joined _ _ is = absurd is
+  call_tracks reading ledger' ledger joined ask request is =
+      (read_effects reading ask request is).tracks (reading_after reading ledger' ledger) marks' marks (length ledger'.answers) (length ledger.answers)
+      (Joins.keeps reading ledger' ledger joined) same (read_there reading (length ledger'.answers) 0 (answers_at (length ledger.answers)))
 
   behind : (reading : Reading) (script more : Script) (earlier further : List ScriptCall)
       → AllZip (IsReadAs reading) (tracked_from marks' 0 script) (tracked_by_calls marks 0 earlier)

@@ -16,10 +16,11 @@ use Rattle.clif_meaning.specs.Ledger.{AValue, Ledger, VariableState, answers_to,
 use Rattle.clif_meaning.specs.Name.{Name, answer_of, same_name}
 use Rattle.clif_meaning.specs.Premises.{EachItem, EntryTakes, IsItemWellTyped, WellTyped}
 use Rattle.clif_meaning.specs.Program.{Program, Item, Instruct, Use, Assign, answers_from, empty_program, extended, redirected_instruction, redirected_item, result_names, result_types, with_inserted, with_item_at}
-use Rattle.clif_meaning.specs.Request.{Request, CreateBlock, SwitchToBlock, SealBlock, SealAllBlocks, InsertBlockAfter, SetColdBlock, EnsureInsertedBlock, AppendBlockParams, AppendFunctionParams, DeclareVar, DefVar, UseVar, MakeEntry, MakeEdge, MakeJumpTable, MakeExceptionTable, Annotate, NeedStackMap, Build, ChangeJumpDestination, Finalize, StackMapNeed, OfVariable, OfValue}
+use Rattle.clif_meaning.specs.Request.{Request, DefVar, UseVar, Build, ChangeJumpDestination, StackMapNeed, OfVariable, OfValue}
 use Rattle.clif_meaning.specs.World.{World}
 use Rattle.clif_meaning.specs.ScriptMachine.{ScriptRun, ScriptState}
 use Rattle.clif_meaning.proofs.EachStep.{each_step}
+use Rattle.clif_meaning.proofs.Effects.{LedgerEffect, ledger_effect, Keeps, Lays, Changes, Begins, Creates, Enters, ChangesEach, Declares, Touches, Reads, Marks, Appends}
 use Rattle.clif_typed_runs.specs.ValuesFit.{EntryHas, IsItemTyped, IsScriptTyped, name_types_at}
 use Rattle.clif_typed_runs.proofs.ScriptSteps.{runs_fit}
 use Rattle.clif_expansion.specs.Laws.{TakesTyped}
@@ -109,27 +110,27 @@ module _ (ledger : Ledger) (v : ℕ) (ty : «Type») (is : variable_type ledger 
   needed_on (OfValue value) = is
 
   asked_on : (request : Request) → variable_type (changed_by ledger request) v ≡ Some ty
-  asked_on CreateBlock = is
-  asked_on (SwitchToBlock block) = is
-  asked_on (SealBlock block) = is
-  asked_on SealAllBlocks = is
-  asked_on (InsertBlockAfter block after) = is
-  asked_on (SetColdBlock block) = is
-  asked_on EnsureInsertedBlock = begun_on
-  asked_on (AppendBlockParams block types) = is
-  asked_on (AppendFunctionParams block types) = is
-  asked_on (DeclareVar declared) = declared_on ledger.variables (new_variable declared ∷ []) v ty is
-  asked_on (DefVar variable value) = touched_on ledger.variables variable v ty is
-  asked_on (UseVar variable) = touched_on (with_begun ledger).variables variable v ty begun_on
-  asked_on (MakeEntry entry) = is
-  asked_on (MakeEdge edge) = is
-  asked_on (MakeJumpTable default entries) = is
-  asked_on (MakeExceptionTable signature normal items) = is
-  asked_on (Annotate inside values) = is
-  asked_on (NeedStackMap need) = needed_on need
-  asked_on (Build entries instruction) = instruction_on instruction
-  asked_on (ChangeJumpDestination branch from to) = is
-  asked_on Finalize = is
+  asked_on request = by (ledger_effect request)
+    where
+      of_ledger : (other : Ledger) → changed_by ledger request ≡ other → variable_type other v ≡ Some ty → variable_type (changed_by ledger request) v ≡ Some ty
+      of_ledger other same typed = ap (λ (l : Ledger). variable_type l v) same ∙ typed
+
+      of_request : (other : Request) → request ≡ other → variable_type (changed_by ledger other) v ≡ Some ty → variable_type (changed_by ledger request) v ≡ Some ty
+      of_request other same typed = ap (λ (r : Request). variable_type (changed_by ledger r) v) same ∙ typed
+
+      by : LedgerEffect request → variable_type (changed_by ledger request) v ≡ Some ty
+      by (Keeps stays same) = of_ledger _ (same ledger) is
+      by (Lays layout tables jump_tables exception_tables stays same) = of_ledger _ (same ledger) is
+      by (Changes block change keeps stays same) = of_ledger _ (same ledger) is
+      by (Begins stays same) = of_ledger _ (same ledger) begun_on
+      by (Creates same) = of_request _ same is
+      by (Enters block same) = of_request _ same is
+      by (ChangesEach change keeps stays same) = of_ledger _ (same ledger) is
+      by (Declares declared same) = of_request _ same (declared_on ledger.variables (new_variable declared ∷ []) v ty is)
+      by (Touches variable value same) = of_request _ same (touched_on ledger.variables variable v ty is)
+      by (Reads variable same) = of_request _ same (touched_on (with_begun ledger).variables variable v ty begun_on)
+      by (Marks need same) = of_request _ same (needed_on need)
+      by (Appends entries instruction same) = of_request _ same (instruction_on instruction)
 
   call_on : (call : ScriptCall) → variable_type (ledger_with_call ledger call) v ≡ Some ty
   call_on (Ask request) = asked_on request
