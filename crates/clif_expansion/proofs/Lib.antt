@@ -47,3 +47,4 @@ pub mod PerformedConstants
 pub mod JoinedRunExamples
 pub mod calls
 pub mod ReadEffects
+pub mod ReadDemands

@@ -3,21 +3,20 @@ use Rattle.std.proofs.Common.{◌≡◌, ℕ, zero, suc, Bool, true, false, cond
 use Rattle.std.specs.Prelude.{find, if◌then◌else◌, is_some, option_and_then, option_map, slice_get}
 use Rattle.std.specs.List.{AllZip, list_all, list_any}
 use Rattle.clif_tables.specs.Lists.{TableLists}
-use Rattle.clif_instructions.specs.Instruction.{ASignatureRef}
-use Rattle.clif_types.specs.Types.{is_type}
 use Rattle.clif_types.specs.declared.types.«Type».{«Type»}
 use Rattle.clif_tables.specs.Entries.{TableEntry}
-use Rattle.clif_meaning.specs.Acceptance.{allows, blames_variable, can_assign, can_lead, can_leave, can_make, can_operate, has_argument, has_entry, has_item, is_open, is_unfinished, may_give, may_give_all, refusal_of, tables_differ, unfinished, Unfilled, Unsealed, may_need, may_mark, fits_stack_map}
-use Rattle.clif_meaning.specs.Instruction.{Argument, Known, CallResult, CallPayload, Edge, Instruction, operation_entries}
+use Rattle.clif_meaning.specs.Acceptance.{allows, blames_variable, can_assign, can_lead, can_leave, has_argument, has_entry, has_item, is_open, is_unfinished, may_give, may_give_all, refusal_of, tables_differ, unfinished, Unfilled, Unsealed, fits_stack_map}
+use Rattle.clif_meaning.specs.Instruction.{Argument, Known, CallResult, CallPayload, Edge, Instruction}
 use Rattle.clif_meaning.specs.Ledger.{ABlock, AVariable, AValue, AnInstruction, AnEntry, AnEdge, AJumpTable, AnExceptionTable, Answered, BlockState, ExceptionTable, Ledger, VariableState, answer_at, answered_edge, begins_with, block_state, edge_named, has_block, has_predecessors, has_value, is_empty, is_filled, is_inserted, is_instruction_answer, is_pristine, is_sealed, is_unreachable, leads_to, state_has, type_of, value_answer_type, variable_type, or_invalid}
 use Rattle.clif_meaning.specs.Name.{Name, same_name}
-use Rattle.clif_meaning.specs.Request.{Request, CreateBlock, SwitchToBlock, SealBlock, SealAllBlocks, InsertBlockAfter, SetColdBlock, EnsureInsertedBlock, AppendBlockParams, AppendFunctionParams, DeclareVar, DefVar, UseVar, MakeEntry, MakeEdge, MakeJumpTable, MakeExceptionTable, Annotate, GivenEntry, ServedBy, TriedBy, Imported, TableItem, TagTo, DefaultTo, InContext, Build, ChangeJumpDestination, Finalize, StackMapNeed, OfVariable, OfValue, NeedStackMap}
-use Rattle.clif_expansion.specs.Joining.{AreJoinedLedgers, Both, ConditionsAreRead, IsOwnState, IsReadAnswer, IsReadCurrent, IsReadException, IsReadLayout, NoMore, Own, StandAmong, IsReadRefusal, IsReadRequest, IsReadState, IsReadTable, IsReadTableItem, IsReadNeed}
+use Rattle.clif_meaning.specs.Request.{Request, GivenEntry, ServedBy, TriedBy, Imported, TableItem, TagTo, DefaultTo, InContext, Finalize}
+use Rattle.clif_expansion.specs.Joining.{AreJoinedLedgers, Both, ConditionsAreRead, IsOwnState, IsReadAnswer, IsReadCurrent, IsReadException, IsReadLayout, NoMore, Own, StandAmong, IsReadRefusal, IsReadRequest, IsReadState, IsReadTable, IsReadTableItem}
 use Rattle.clif_expansion.specs.Reading.{IsOneToOne, IsReadArgument, IsReadAs, IsReadEdge, IsReadInstruction, Reading}
 use Rattle.clif_expansion.specs.ScriptCall.{Emit, call_allowed, can_emit, is_byte, is_second_byte, sets_bytes}
 use Rattle.clif_expansion.proofs.Among.{any_leading, leading_empty, other_generated}
 use Rattle.clif_expansion.proofs.JoinedStates.{inserted_read}
 use Rattle.clif_expansion.proofs.Names.{same_read}
+use Rattle.clif_expansion.proofs.ReadDemands.{Demand, NameTest, IsABlock, IsUnfilled, IsUnsealed, IsOutside, IsInserted, IsPristine, IsUntouched, IsAnEdge, IsForStackMaps, IsOfVariable, AsksBoth, AsksName, AsksLeading, AsksValues, AsksEdges, AsksArguments, AsksItems, AsksTargets, AsksEntries, AsksOpen, AsksLeaving, AsksTables, AsksVariables, IsReadDemand, NeitherBlames, BothAssigned, BothUsed, ReadBlame, holds, passes, read_demands}
 
 -- LISTS -------------------------------------------------------------------------------------------------------------------
 
@@ -259,18 +258,6 @@ module _ (reading : Reading) (plain ledger : Ledger) (ledgers : AreJoinedLedgers
   item_same (InContext x) (InContext value) is = has_value_same x value is
   item_same _ _ is = absurd is
 
-  built : (entries' entries : List GivenEntry) (instruction' instruction : Instruction Name Name) → entries' ≡ entries → IsReadInstruction reading instruction' instruction
-      → allows plain (Build entries' instruction') ≡ allows ledger (Build entries instruction)
-  built entries' entries instruction' instruction same is =
-      let operation = is.operation in
-      let operands = values_same instruction'.operands instruction.operands is.operands in
-      let contexts = values_same instruction'.contexts instruction.contexts is.contexts in
-      let edges = all_same (IsReadEdge reading) (can_lead plain) (can_lead ledger) lead_same instruction'.edges instruction.edges is.edges in
-      let given : may_give_all plain entries' ≡ may_give_all ledger entries =
-      ap (λ (es : List GivenEntry). may_give_all plain es) same ∙ ap (λ (each : Bool). tables_differ entries && each) (gives_same entries) in
-      λ i. contexts i && given i && opened i && operands i && edges i && can_operate (operation i) (is.controlling i)
-      && list_all (has_entry (ledgers.states.tables i)) (operation_entries (operation i))
-
   -- the second operand is a byte under both names
   byte_same : (names' names : List Name) → AllZip (IsReadAs reading) names' names → is_second_byte plain names' ≡ is_second_byte ledger names
   byte_same [] [] is = refl
@@ -291,68 +278,54 @@ module _ (reading : Reading) (plain ledger : Ledger) (ledgers : AreJoinedLedgers
       let byte = byte_same instruction'.operands instruction.operands is.operands in
       λ i. contexts i && (if sets_bytes (is.operation i) then byte i else true) && opened i && operands i && edges i && can_emit (is.operation i) (is.controlling i)
 
-  needed : (asked need : StackMapNeed) → IsReadNeed reading asked need → may_need plain asked ≡ may_need ledger need
-  needed (OfVariable number) (OfVariable variable) is =
-      ap₂ (λ (variables : List VariableState) (v : ℕ). may_mark (slice_get variables v)) ledgers.states.variables is
-  needed (OfValue x) (OfValue value) is = λ i. has_value_same x value is i && fits_stack_map (or_invalid (type_same x value is i))
-  needed (OfVariable number) (OfValue value) is = absurd is
-  needed (OfValue x) (OfVariable variable) is = absurd is
+  -- a test of a name answers the same
+  passes_same : (test : NameTest) (x name : Name) → IsReadAs reading x name → passes plain test x ≡ passes ledger test name
+  passes_same IsABlock x block is = block_same x block is
+  passes_same IsUnfilled x block is = λ i. block_same x block is i && not (filled_same x block is i)
+  passes_same IsUnsealed x block is = λ i. block_same x block is i && not (sealed_same x block is i)
+  passes_same IsOutside x block is = λ i. block_same x block is i && not (is_inserted_same x block is i)
+  passes_same IsInserted x block is = is_inserted_same x block is
+  passes_same IsPristine x block is = pristine_same x block is
+  passes_same IsUntouched x block is = λ i. pristine_same x block is i && not (led_same x block is i)
+  passes_same IsAnEdge x name is = named_same x name is
+  passes_same IsForStackMaps x value is = λ i. has_value_same x value is i && fits_stack_map (or_invalid (type_same x value is i))
+  passes_same (IsOfVariable variable) x value is = assign_same variable variable x value refl is
+
+  leading_same : (jump branch x block : Name) → IsReadAs reading jump branch → IsReadAs reading x block → holds plain (AsksLeading jump x) ≡ holds ledger (AsksLeading branch block)
+  leading_same jump branch x block by is =
+      let branches = instruction_same reading (answer_at plain jump) (answer_at ledger branch) (ledgers.answers jump branch by) in
+      λ i. branches i && leads_same jump branch x block by is i && not (sealed_same x block is i)
+
+  -- and so does a demand
+  demand_same : (demand' demand : Demand) → IsReadDemand reading demand' demand → holds plain demand' ≡ holds ledger demand
+  demand_same (AsksBoth first' second') (AsksBoth first second) is = ap₂ (λ (a b : Bool). a && b) (demand_same first' first is.0) (demand_same second' second is.1)
+  demand_same (AsksName test' x) (AsksName test name) is = ap (λ (t : NameTest). passes plain t x) is.0 ∙ passes_same test x name is.1
+  demand_same (AsksLeading jump x) (AsksLeading branch block) is = leading_same jump branch x block is.0 is.1
+  demand_same (AsksValues names') (AsksValues names) is = values_same names' names is
+  demand_same (AsksEdges names') (AsksEdges names) is = edges_same names' names is
+  demand_same (AsksArguments arguments') (AsksArguments arguments) is = all_same (IsReadArgument reading) (has_argument plain) (has_argument ledger) argument_same arguments' arguments is
+  demand_same (AsksItems items') (AsksItems items) is = all_same (IsReadTableItem reading) (has_item plain) (has_item ledger) item_same items' items is
+  demand_same (AsksTargets edges') (AsksTargets edges) is = all_same (IsReadEdge reading) (can_lead plain) (can_lead ledger) lead_same edges' edges is
+  demand_same (AsksEntries entries') (AsksEntries entries) is =
+      ap (λ (es : List GivenEntry). may_give_all plain es) is ∙ ap (λ (each : Bool). tables_differ entries && each) (gives_same entries)
+  demand_same (AsksOpen asks') (AsksOpen asks) is = λ i. if is i then opened i else true
+  demand_same AsksLeaving AsksLeaving is = leave_same plain.current ledger.current ledgers.states.current
+  demand_same (AsksTables test') (AsksTables test) is = ap₂ (λ (t : TableLists → Bool) (tables : TableLists). t tables) is ledgers.states.tables
+  demand_same (AsksVariables test') (AsksVariables test) is = ap₂ (λ (t : List VariableState → Bool) (states : List VariableState). t states) is ledgers.states.variables
+  demand_same _ _ is = absurd is
 
   allowed : (asked request : Request) → IsReadRequest reading asked request → allows plain asked ≡ allows ledger request
-  allowed CreateBlock CreateBlock is = refl
-  allowed (SwitchToBlock x) (SwitchToBlock block) is =
-      let leave = leave_same plain.current ledger.current ledgers.states.current in
-      λ i. block_same x block is i && not (filled_same x block is i) && leave i
-  allowed (SealBlock x) (SealBlock block) is = λ i. block_same x block is i && not (sealed_same x block is i)
-  allowed SealAllBlocks SealAllBlocks is = refl
-  allowed (InsertBlockAfter x behind) (InsertBlockAfter block after) is =
-      λ i. block_same x block is.0 i && not (is_inserted_same x block is.0 i) && is_inserted_same behind after is.1 i
-  allowed (SetColdBlock x) (SetColdBlock block) is = block_same x block is
-  allowed EnsureInsertedBlock EnsureInsertedBlock is = opened
-  allowed (AppendBlockParams x types') (AppendBlockParams block types) is = pristine_same x block is.0
-  allowed (AppendFunctionParams x types') (AppendFunctionParams block types) is = λ i. pristine_same x block is.0 i && not (led_same x block is.0 i)
-  allowed (DeclareVar ty') (DeclareVar ty) is = ap is_type is
-  allowed (DefVar number x) (DefVar variable value) is = λ i. opened i && assign_same number variable x value is.0 is.1 i
-  allowed (UseVar number) (UseVar variable) is = λ i. opened i && is_some (variable_same number variable is i)
-  allowed (MakeEntry entry') (MakeEntry entry) is = ap₂ can_make ledgers.states.tables is
-  allowed (MakeEdge edge') (MakeEdge edge) is = λ i. block_same edge'.target edge.target is.target i && arguments_same edge' edge is i
-  allowed (MakeJumpTable first names) (MakeJumpTable default entries) is = edges_same (first ∷ names) (default ∷ entries) is
-  allowed (MakeExceptionTable number first listed) (MakeExceptionTable signature normal items) is =
-      let listed_same = all_same (IsReadTableItem reading) (has_item plain) (has_item ledger) item_same listed items is.2 in
-      λ i. named_same first normal is.1 i && listed_same i && has_entry (ledgers.states.tables i) (ASignatureRef (is.0 i))
-  allowed (Annotate inside names) (Annotate within values) is = λ i. (if is.0 i then opened i else true) && values_same names values is.1 i
-  allowed (NeedStackMap asked_need) (NeedStackMap need) is = needed asked_need need is
-  allowed (Build entries' instruction') (Build entries instruction) is = built entries' entries instruction' instruction is.0 is.1
-  allowed (ChangeJumpDestination jump at there) (ChangeJumpDestination branch from to) is =
-      let branches = instruction_same reading (answer_at plain jump) (answer_at ledger branch) (ledgers.answers jump branch is.0) in
-      λ i. branches i && leads_same jump branch at from is.0 is.1 i && not (sealed_same at from is.1 i) && block_same there to is.2 i && not (sealed_same there to is.2 i)
-  allowed Finalize Finalize is = refl
-  allowed _ _ is = absurd is
+  allowed asked request is =
+      let demands = read_demands reading asked request is in
+      demands.asks' plain ∙ demand_same demands.plain demands.script demands.reads ∙ sym (demands.asks ledger)
+
+  blamed_so : (asked request : Request) → ReadBlame reading asked request → blames_variable plain asked ≡ blames_variable ledger request
+  blamed_so asked request (NeitherBlames a r none' none) = none' plain ∙ sym (none ledger)
+  blamed_so asked request (BothAssigned number variable x value same is) = λ i. opened i && has_value_same x value is i && not (assign_same number variable x value same is i)
+  blamed_so asked request (BothUsed number variable is) = λ i. opened i && not (is_some (variable_same number variable is i))
 
   blamed : (asked request : Request) → IsReadRequest reading asked request → blames_variable plain asked ≡ blames_variable ledger request
-  blamed (DefVar number x) (DefVar variable value) is =
-      λ i. opened i && has_value_same x value is.1 i && not (assign_same number variable x value is.0 is.1 i)
-  blamed (UseVar number) (UseVar variable) is = λ i. opened i && not (is_some (variable_same number variable is i))
-  blamed CreateBlock CreateBlock is = refl
-  blamed (SwitchToBlock x) (SwitchToBlock block) is = refl
-  blamed (SealBlock x) (SealBlock block) is = refl
-  blamed SealAllBlocks SealAllBlocks is = refl
-  blamed (InsertBlockAfter x behind) (InsertBlockAfter block after) is = refl
-  blamed (SetColdBlock x) (SetColdBlock block) is = refl
-  blamed EnsureInsertedBlock EnsureInsertedBlock is = refl
-  blamed (AppendBlockParams x types') (AppendBlockParams block types) is = refl
-  blamed (AppendFunctionParams x types') (AppendFunctionParams block types) is = refl
-  blamed (DeclareVar ty') (DeclareVar ty) is = refl
-  blamed (MakeEntry entry') (MakeEntry entry) is = refl
-  blamed (MakeEdge edge') (MakeEdge edge) is = refl
-  blamed (MakeJumpTable first names) (MakeJumpTable default entries) is = refl
-  blamed (MakeExceptionTable number first listed) (MakeExceptionTable signature normal items) is = refl
-  blamed (Annotate inside names) (Annotate within values) is = refl
-  blamed (NeedStackMap asked_need) (NeedStackMap need) is = refl
-  blamed (Build entries' instruction') (Build entries instruction) is = refl
-  blamed (ChangeJumpDestination jump at there) (ChangeJumpDestination branch from to) is = refl
-  blamed Finalize Finalize is = refl
-  blamed _ _ is = absurd is
+  blamed asked request is = blamed_so asked request (read_demands reading asked request is).blame
 
   unfinished_read : (state' state : Option BlockState) → IsReadSomeState reading made state' state → IsReadRefusal reading (unfinished state') (unfinished state)
   unfinished_read None None is = tt
@@ -381,27 +354,9 @@ module _ (reading : Reading) (plain ledger : Ledger) (ledgers : AreJoinedLedgers
   refused Finalize Finalize is =
       unfinished_read (find is_unfinished plain.blocks) (find is_unfinished ledger.blocks)
       (found reading made is_unfinished is_unfinished finished_same own_finished plain.blocks ledger.blocks ledgers.states.blocks)
-  refused CreateBlock CreateBlock is = tt
-  refused (SwitchToBlock x) (SwitchToBlock block) is = tt
-  refused (SealBlock x) (SealBlock block) is = tt
-  refused SealAllBlocks SealAllBlocks is = tt
-  refused (InsertBlockAfter x behind) (InsertBlockAfter block after) is = tt
-  refused (SetColdBlock x) (SetColdBlock block) is = tt
-  refused EnsureInsertedBlock EnsureInsertedBlock is = tt
-  refused (AppendBlockParams x types') (AppendBlockParams block types) is = tt
-  refused (AppendFunctionParams x types') (AppendFunctionParams block types) is = tt
-  refused (DeclareVar ty') (DeclareVar ty) is = tt
-  refused (DefVar number x) (DefVar variable value) is = tt
-  refused (UseVar number) (UseVar variable) is = tt
-  refused (MakeEntry entry') (MakeEntry entry) is = tt
-  refused (MakeEdge edge') (MakeEdge edge) is = tt
-  refused (MakeJumpTable first names) (MakeJumpTable default entries) is = tt
-  refused (MakeExceptionTable number first listed) (MakeExceptionTable signature normal items) is = tt
-  refused (Annotate inside names) (Annotate within values) is = tt
-  refused (NeedStackMap asked_need) (NeedStackMap need) is = tt
-  refused (Build entries' instruction') (Build entries instruction) is = tt
-  refused (ChangeJumpDestination jump at there) (ChangeJumpDestination branch from to) is = tt
-  refused _ _ is = absurd is
+  refused Finalize _ is = absurd is
+  refused _ Finalize is = absurd is
+  refused _ _ is = tt
 
 pub conditions_are_read : ConditionsAreRead
 conditions_are_read = record {
