@@ -5,17 +5,17 @@ use Rattle.std.specs.List.{AllZip, list_all, list_any}
 use Rattle.std.proofs.lemmas.Bool.{and_parts, false≢true}
 use Rattle.std.proofs.lemmas.Option.{slice_get_within}
 use Rattle.clif_types.specs.declared.types.«Type».{«Type»}
-use Rattle.clif_instructions.specs.Instruction.{ASignatureRef}
-use Rattle.clif_meaning.specs.Acceptance.{allows, can_assign, can_lead, can_operate, has_argument, has_entry, has_item, is_open, may_give_all, fits_stack_map}
-use Rattle.clif_meaning.specs.Instruction.{Argument, Known, CallResult, CallPayload, Edge, Instruction, operation_entries}
+use Rattle.clif_meaning.specs.Acceptance.{allows, can_assign, can_lead, has_argument, has_item, is_open, fits_stack_map}
+use Rattle.clif_meaning.specs.Instruction.{Argument, Known, CallResult, CallPayload, Edge, Instruction}
 use Rattle.clif_meaning.specs.Ledger.{Answered, BlockState, Ledger, answer_at, answered_edge, block_state, edge_named, has_block, has_instruction, has_value, is_inserted, is_instruction_answer, is_sealed, leads_to, state_has, type_of, value_answer_type, variable_type, or_invalid}
 use Rattle.clif_meaning.specs.Name.{Name, same_name}
-use Rattle.clif_meaning.specs.Request.{Request, CreateBlock, SwitchToBlock, SealBlock, SealAllBlocks, InsertBlockAfter, SetColdBlock, EnsureInsertedBlock, AppendBlockParams, AppendFunctionParams, DeclareVar, DefVar, UseVar, MakeEntry, MakeEdge, MakeExceptionTable, MakeJumpTable, Annotate, Build, ChangeJumpDestination, Finalize, TableItem, TagTo, DefaultTo, InContext, OfVariable, OfValue, NeedStackMap}
+use Rattle.clif_meaning.specs.Request.{Request, TableItem, TagTo, DefaultTo, InContext}
 use Rattle.clif_expansion.specs.Joining.{Both, IsJoined, IsOwnState, IsReadLayout, IsReadRequest, IsReadState, IsReadTableItem, Own, StandAmong}
 use Rattle.clif_expansion.specs.Reading.{IsReadArgument, IsReadAs, IsReadEdge, IsReadInstruction, Reading}
 use Rattle.clif_expansion.specs.ScriptCall.{Emit, call_allowed, can_emit, takes_byte}
 use Rattle.clif_expansion.specs.Walk.{IsGenerated}
 use Rattle.clif_expansion.proofs.Names.{names_equal}
+use Rattle.clif_expansion.proofs.ReadDemands.{Demand, NameTest, IsABlock, IsUnfilled, IsUnsealed, IsOutside, IsInserted, IsPristine, IsUntouched, IsAnEdge, IsForStackMaps, IsOfVariable, AsksBoth, AsksName, AsksLeading, AsksValues, AsksEdges, AsksArguments, AsksItems, AsksTargets, AsksEntries, AsksOpen, AsksLeaving, AsksTables, AsksVariables, IsReadDemand, holds, passes, read_demands}
 use Rattle.clif_builder.proofs.LedgerLists.{and-then-some}
 
 -- an answer is there where a test finds it
@@ -152,12 +152,6 @@ module _ (whole reading : Reading) (plain ledger : Ledger) (joined : IsJoined re
     edges = each (IsReadEdge whole) (IsReadEdge reading) (can_lead plain) lead before.edges after.edges is.edges edges;
   }
 
-  -- the parts of an instruction's condition that names are in
-  built-parts : (contexts given opens operands edges fits entries : Bool) → ((((((contexts && given) && opens) && operands) && edges) && fits) && entries) ≡ true
-      → (contexts ≡ true) × (operands ≡ true) × (edges ≡ true)
-  built-parts true true true true true true true is = (refl, refl, refl)
-  built-parts _ _ _ _ _ _ _ is = absurd (false≢true is)
-
   -- an instruction that may be emitted
   emitted-parts : (contexts byte opens operands edges can : Bool) → (((((contexts && byte) && opens) && operands) && edges) && can) ≡ true → (contexts ≡ true) × (operands ≡ true) × (edges ≡ true)
   emitted-parts true true true true true true is = (refl, refl, refl)
@@ -170,52 +164,46 @@ module _ (whole reading : Reading) (plain ledger : Ledger) (joined : IsJoined re
       (can_emit before.operation before.controlling) may in
       instruction before after is parts.0 parts.1 parts.2
 
-  pub narrowed : (asked request : Request) → IsReadRequest whole asked request → allows plain asked ≡ true → IsReadRequest reading asked request
-  narrowed CreateBlock CreateBlock is may = tt
-  narrowed (SwitchToBlock x) (SwitchToBlock name) is may = block x name is (and_parts (has_block plain x) _ (and_parts _ _ may).0).0
-  narrowed (SealBlock x) (SealBlock name) is may = block x name is (and_parts (has_block plain x) _ may).0
-  narrowed SealAllBlocks SealAllBlocks is may = tt
-  narrowed (InsertBlockAfter x behind) (InsertBlockAfter name after) is may =
-      let parts = and_parts _ (is_inserted plain behind) may in
-      (block x name is.0 (and_parts (has_block plain x) _ parts.0).0, placed behind after is.1 parts.1)
-  narrowed (SetColdBlock x) (SetColdBlock name) is may = block x name is may
-  narrowed EnsureInsertedBlock EnsureInsertedBlock is may = tt
-  narrowed (AppendBlockParams x types') (AppendBlockParams name types) is may = (state (λ state. state.is_pristine) x name is.0 may, is.1)
-  narrowed (AppendFunctionParams x types') (AppendFunctionParams name types) is may = (state (λ state. state.is_pristine) x name is.0 (and_parts _ _ may).0, is.1)
-  narrowed (DeclareVar ty') (DeclareVar ty) is may = is
-  narrowed (DefVar number x) (DefVar variable name) is may =
-      (is.0, value x name is.1 (assigned-some (variable_type plain number) (type_of plain x) (and_parts _ _ may).1))
-  narrowed (UseVar number) (UseVar variable) is may = is
-  narrowed (MakeEntry entry') (MakeEntry entry) is may = is
-  narrowed (MakeEdge edge') (MakeEdge after) is may =
-      let parts = and_parts (has_block plain edge'.target) (list_all (has_argument plain) edge'.arguments) may in
-      edge edge' after is parts.0 parts.1
-  narrowed (MakeJumpTable first names) (MakeJumpTable default entries) is may =
-      let parts = and_parts (is_some (edge_named plain first)) (list_all (λ name. is_some (edge_named plain name)) names) may in
-      (edge_name first default is.0 parts.0, edge_names names entries is.1 parts.1)
-  narrowed (MakeExceptionTable number first listed) (MakeExceptionTable signature normal items) is may =
-      let named = (and_parts (is_some (edge_named plain first) && list_all (has_item plain) listed) (has_entry plain.tables (ASignatureRef number)) may).0 in
-      let parts = and_parts (is_some (edge_named plain first)) (list_all (has_item plain) listed) named in
-      (is.0, edge_name first normal is.1 parts.0, each (IsReadTableItem whole) (IsReadTableItem reading) (has_item plain) item listed items is.2 parts.1)
-  narrowed (Annotate inside names) (Annotate within others) is may =
-      let parts = and_parts (if inside then is_open plain plain.current else true) (list_all (has_value plain) names) may in
-      (is.0, values names others is.1 parts.1)
-  narrowed (NeedStackMap (OfVariable number)) (NeedStackMap (OfVariable variable)) is may = is
-  narrowed (NeedStackMap (OfValue x)) (NeedStackMap (OfValue name)) is may =
-      value x name is (and_parts (has_value plain x) (fits_stack_map (or_invalid (type_of plain x))) may).0
-  narrowed (NeedStackMap (OfVariable number)) (NeedStackMap (OfValue name)) is may = absurd is
-  narrowed (NeedStackMap (OfValue x)) (NeedStackMap (OfVariable variable)) is may = absurd is
-  narrowed (Build entries' instruction') (Build entries after) is may =
-      let parts = built-parts (list_all (has_value plain) instruction'.contexts) (may_give_all plain entries') (is_open plain plain.current) (list_all (has_value plain) instruction'.operands)
-      (list_all (can_lead plain) instruction'.edges) (can_operate instruction'.operation instruction'.controlling) (list_all (has_entry plain.tables) (operation_entries instruction'.operation)) may in
-      (is.0, instruction instruction' after is.1 parts.0 parts.1 parts.2)
-  narrowed (ChangeJumpDestination jump at there) (ChangeJumpDestination branch from to) is may =
-      let last = and_parts (has_instruction plain jump && leads_to plain jump at && not (is_sealed plain at) && has_block plain there) (not (is_sealed plain there)) may in
-      let fourth = and_parts (has_instruction plain jump && leads_to plain jump at && not (is_sealed plain at)) (has_block plain there) last.0 in
-      let first = and_parts (has_instruction plain jump) (leads_to plain jump at) (and_parts (has_instruction plain jump && leads_to plain jump at) (not (is_sealed plain at)) fourth.0).0 in (
-        narrow jump branch is.0 (answered is_instruction_answer refl jump first.0),
-        state (λ state. list_any (same_name jump) state.predecessors) at from is.1 first.1,
-        block there to is.2 fourth.1,
+  -- what is asked of a name, and is so
+  tested : (test : NameTest) (x name : Name) → IsReadAs whole x name → passes plain test x ≡ true → IsReadAs reading x name
+  tested IsABlock x name is may = block x name is may
+  tested IsUnfilled x name is may = block x name is (and_parts (has_block plain x) _ may).0
+  tested IsUnsealed x name is may = block x name is (and_parts (has_block plain x) _ may).0
+  tested IsOutside x name is may = block x name is (and_parts (has_block plain x) _ may).0
+  tested IsInserted x name is may = placed x name is may
+  tested IsPristine x name is may = state (λ state. state.is_pristine) x name is may
+  tested IsUntouched x name is may = state (λ state. state.is_pristine) x name is (and_parts _ _ may).0
+  tested IsAnEdge x name is may = edge_name x name is may
+  tested IsForStackMaps x name is may = value x name is (and_parts (has_value plain x) (fits_stack_map (or_invalid (type_of plain x))) may).0
+  tested (IsOfVariable variable) x name is may = value x name is (assigned-some (variable_type plain variable) (type_of plain x) may)
+
+  leading : (jump branch at from : Name) → IsReadAs whole jump branch → IsReadAs whole at from → holds plain (AsksLeading jump at) ≡ true → IsReadAs reading jump branch × IsReadAs reading at from
+  leading jump branch at from is leaves may =
+      let parts = and_parts (has_instruction plain jump) (leads_to plain jump at) (and_parts (has_instruction plain jump && leads_to plain jump at) (not (is_sealed plain at)) may).0 in (
+        narrow jump branch is (answered is_instruction_answer refl jump parts.0),
+        state (λ state. list_any (same_name jump) state.predecessors) at from leaves parts.1,
       )
-  narrowed Finalize Finalize is may = tt
-  narrowed _ _ is may = absurd is
+
+  -- a demand that holds
+  demanded : (before after : Demand) → IsReadDemand whole before after → holds plain before ≡ true → IsReadDemand reading before after
+  demanded (AsksBoth first' second') (AsksBoth first second) is may =
+      let parts = and_parts (holds plain first') (holds plain second') may in
+      (demanded first' first is.0 parts.0, demanded second' second is.1 parts.1)
+  demanded (AsksName test' x) (AsksName test name) is may = (is.0, tested test' x name is.1 may)
+  demanded (AsksLeading jump at) (AsksLeading branch from) is may = leading jump branch at from is.0 is.1 may
+  demanded (AsksValues xs) (AsksValues names) is may = values xs names is may
+  demanded (AsksEdges xs) (AsksEdges names) is may = edge_names xs names is may
+  demanded (AsksArguments xs) (AsksArguments arguments) is may = each (IsReadArgument whole) (IsReadArgument reading) (has_argument plain) argument xs arguments is may
+  demanded (AsksItems xs) (AsksItems items) is may = each (IsReadTableItem whole) (IsReadTableItem reading) (has_item plain) item xs items is may
+  demanded (AsksTargets xs) (AsksTargets edges) is may = each (IsReadEdge whole) (IsReadEdge reading) (can_lead plain) lead xs edges is may
+  demanded (AsksEntries given) (AsksEntries entries) is may = is
+  demanded (AsksOpen inside) (AsksOpen within) is may = is
+  demanded AsksLeaving AsksLeaving is may = tt
+  demanded (AsksTables test') (AsksTables test) is may = is
+  demanded (AsksVariables test') (AsksVariables test) is may = is
+  demanded _ _ is may = absurd is
+
+  pub narrowed : (asked request : Request) → IsReadRequest whole asked request → allows plain asked ≡ true → IsReadRequest reading asked request
+  narrowed asked request is may =
+      let demands = read_demands whole asked request is in
+      demands.again reading (demanded demands.plain demands.script demands.reads (sym (demands.asks' plain) ∙ may))

@@ -5,16 +5,17 @@ use Rattle.std.specs.Prelude.{◌&&◌, ◌||◌, Bool, true, false, Option, Som
 use Rattle.std.specs.List.{AllZip, list_all, list_any}
 use Rattle.std.proofs.lemmas.Bool.{false_from_ne_true, false≢true}
 use Rattle.clif_types.specs.declared.types.«Type».{«Type»}
-use Rattle.clif_meaning.specs.Acceptance.{allows, blames_variable, can_assign, can_lead, has_argument, has_item, is_open}
+use Rattle.clif_meaning.specs.Acceptance.{allows, blames_variable, can_assign, can_lead, has_argument, has_item}
 use Rattle.clif_meaning.specs.Instruction.{Argument, Known, CallResult, CallPayload, Edge, Instruction}
 use Rattle.clif_meaning.specs.Ledger.{ABlock, Answered, BlockState, Ledger, answer_at, answered_edge, block_state, edge_named, has_block, has_instruction, has_value, is_inserted, is_instruction_answer, is_sealed, state_has, type_of, value_answer_type, variable_type}
 use Rattle.clif_meaning.specs.Name.{Name, same_name}
-use Rattle.clif_meaning.specs.Request.{GivenEntry, Request, CreateBlock, SwitchToBlock, SealBlock, SealAllBlocks, InsertBlockAfter, SetColdBlock, EnsureInsertedBlock, AppendBlockParams, AppendFunctionParams, DeclareVar, DefVar, UseVar, MakeEntry, MakeEdge, MakeExceptionTable, MakeJumpTable, Annotate, Build, ChangeJumpDestination, Finalize, TableItem, TagTo, DefaultTo, InContext, OfVariable, OfValue, NeedStackMap}
+use Rattle.clif_meaning.specs.Request.{Request, DefVar, TableItem, TagTo, DefaultTo, InContext}
 use Rattle.clif_expansion.specs.Joining.{Both, IsJoined, IsOwnState, IsReadAnswer, IsReadLayout, IsReadRequest, IsReadState, IsReadTableItem, Own, StandAmong}
 use Rattle.clif_expansion.specs.Reading.{IsReadArgument, IsReadAs, IsReadEdge, IsReadInstruction, Reading}
 use Rattle.clif_expansion.specs.ScriptCall.{Emit, call_allowed}
 use Rattle.clif_expansion.specs.Walk.{IsGenerated}
 use Rattle.clif_expansion.proofs.Names.{equal_names, names_equal}
+use Rattle.clif_expansion.proofs.ReadDemands.{Demand, NameTest, IsABlock, IsUnfilled, IsUnsealed, IsOutside, IsInserted, IsPristine, IsUntouched, IsAnEdge, IsForStackMaps, IsOfVariable, AsksBoth, AsksName, AsksLeading, AsksValues, AsksEdges, AsksArguments, AsksItems, AsksTargets, AsksEntries, AsksOpen, AsksLeaving, AsksTables, AsksVariables, IsReadDemand, NeitherBlames, BothAssigned, BothUsed, ReadBlame, ReadDemands, holds, passes, read_demands}
 
 -- no answer has the name, and no block
 pub record IsNowhere (ledger : Ledger) (x : Name) : Type 0 where
@@ -78,61 +79,33 @@ none-assigned (Some ty) = refl
 -- WHAT IS DENIED ----------------------------------------------------------------------------------------------------------
 
 module _ (side : Ledger) where
-  deny-switch : (x : Name) → IsNowhere side x → allows side (SwitchToBlock x) ≡ false
-  deny-switch x gone = left-denied _ _ (left-denied _ _ (no-block side x gone))
+  -- what is asked of a name
+  name-denied : (test : NameTest) (x : Name) → IsNowhere side x → passes side test x ≡ false
+  name-denied IsABlock x gone = no-block side x gone
+  name-denied IsUnfilled x gone = left-denied _ _ (no-block side x gone)
+  name-denied IsUnsealed x gone = left-denied _ _ (no-block side x gone)
+  name-denied IsOutside x gone = left-denied _ _ (no-block side x gone)
+  name-denied IsInserted x gone = gone.outside
+  name-denied IsPristine x gone = no-state side x gone (λ state. state.is_pristine)
+  name-denied IsUntouched x gone = left-denied _ _ (no-state side x gone (λ state. state.is_pristine))
+  name-denied IsAnEdge x gone = no-edge-named side x gone
+  name-denied IsForStackMaps x gone = left-denied _ _ (no-value side x gone)
+  name-denied (IsOfVariable variable) x gone = ap (can_assign (variable_type side variable)) (no-type side x gone) ∙ none-assigned (variable_type side variable)
 
-  deny-seal : (x : Name) → IsNowhere side x → allows side (SealBlock x) ≡ false
-  deny-seal x gone = left-denied _ _ (no-block side x gone)
+  leading-denied : (branch from : Name) → IsNowhere side branch ⊎ IsNowhere side from → holds side (AsksLeading branch from) ≡ false
+  leading-denied branch from (inl gone) = left-denied _ _ (left-denied _ _ (no-instruction side branch gone))
+  leading-denied branch from (inr gone) = left-denied _ _ (right-denied _ _ (no-state side from gone (λ state. list_any (same_name branch) state.predecessors)))
 
-  deny-insert : (x after : Name) → IsNowhere side x → allows side (InsertBlockAfter x after) ≡ false
-  deny-insert x after gone = left-denied _ _ (left-denied _ _ (no-block side x gone))
-
-  deny-after : (x after : Name) → IsNowhere side after → allows side (InsertBlockAfter x after) ≡ false
-  deny-after x after gone = right-denied _ _ gone.outside
-
-  deny-params : (x : Name) (types : List «Type») → IsNowhere side x → allows side (AppendBlockParams x types) ≡ false
-  deny-params x types gone = no-state side x gone (λ state. state.is_pristine)
-
-  deny-function-params : (x : Name) (types : List «Type») → IsNowhere side x → allows side (AppendFunctionParams x types) ≡ false
-  deny-function-params x types gone = left-denied _ _ (no-state side x gone (λ state. state.is_pristine))
-
+  -- an assignment, which isn't to blame for its variable
   deny-assigned : (k : ℕ) (x : Name) → IsNowhere side x → allows side (DefVar k x) ≡ false
-  deny-assigned k x gone = right-denied _ _ (ap (can_assign (variable_type side k)) (no-type side x gone) ∙ none-assigned (variable_type side k))
+  deny-assigned k x gone = right-denied _ _ (name-denied (IsOfVariable k) x gone)
 
   unblamed : (k : ℕ) (x : Name) → IsNowhere side x → blames_variable side (DefVar k x) ≡ false
   unblamed k x gone = left-denied _ _ (right-denied _ _ (no-value side x gone))
 
-  deny-need : (x : Name) → IsNowhere side x → allows side (NeedStackMap (OfValue x)) ≡ false
-  deny-need x gone = left-denied _ _ (no-value side x gone)
-
-  deny-edge : (edge : Edge Name Name) → (has_block side edge.target ≡ false) ⊎ (list_all (has_argument side) edge.arguments ≡ false) → allows side (MakeEdge edge) ≡ false
-  deny-edge edge (inl target) = left-denied _ _ target
-  deny-edge edge (inr arguments) = right-denied _ _ arguments
-
-  deny-exceptions : (signature : ℕ) (normal : Name) (items : List TableItem) → (is_some (edge_named side normal) ≡ false) ⊎ (list_all (has_item side) items ≡ false)
-      → allows side (MakeExceptionTable signature normal items) ≡ false
-  deny-exceptions signature normal items (inl edge) = left-denied _ _ (left-denied _ _ edge)
-  deny-exceptions signature normal items (inr listed) = left-denied _ _ (right-denied _ _ listed)
-
-  deny-branch : (branch from to : Name) → IsNowhere side branch → allows side (ChangeJumpDestination branch from to) ≡ false
-  deny-branch branch from to gone = left-denied _ _ (left-denied _ _ (left-denied _ _ (left-denied _ _ (no-instruction side branch gone))))
-
-  deny-source : (branch from to : Name) → IsNowhere side from → allows side (ChangeJumpDestination branch from to) ≡ false
-  deny-source branch from to gone =
-      left-denied _ _ (left-denied _ _ (left-denied _ _ (right-denied _ _ (no-state side from gone (λ state. list_any (same_name branch) state.predecessors)))))
-
-  deny-target : (branch from to : Name) → IsNowhere side to → allows side (ChangeJumpDestination branch from to) ≡ false
-  deny-target branch from to gone = left-denied _ _ (right-denied _ _ (no-block side to gone))
-
   -- names of an instruction that lead nowhere: a context, an operand, or an edge's
   abbrev NamesNothing : Instruction Name Name → Type 0
   NamesNothing a = (list_all (has_value side) a.contexts ≡ false) ⊎ (list_all (has_value side) a.operands ≡ false) ⊎ (list_all (can_lead side) a.edges ≡ false)
-
-  deny-build : (entries : List GivenEntry) (a : Instruction Name Name) → NamesNothing a → allows side (Build entries a) ≡ false
-  deny-build entries a (inl contexts) =
-      left-denied _ _ (left-denied _ _ (left-denied _ _ (left-denied _ _ (left-denied _ _ (left-denied _ _ contexts)))))
-  deny-build entries a (inr (inl operands)) = left-denied _ _ (left-denied _ _ (left-denied _ _ (right-denied _ _ operands)))
-  deny-build entries a (inr (inr edges)) = left-denied _ _ (left-denied _ _ (right-denied _ _ edges))
 
   deny-emission : (a : Instruction Name Name) → NamesNothing a → call_allowed side (Emit [] a) ≡ false
   deny-emission a (inl contexts) = left-denied _ _ (left-denied _ _ (left-denied _ _ (left-denied _ _ (left-denied _ _ contexts))))
@@ -252,100 +225,60 @@ module _ (wide reading : Reading) (plain ledger : Ledger)
   denied-so : (asked request : Request) → allows plain asked ≡ false → allows ledger request ≡ false → blames_variable plain asked ≡ blames_variable ledger request → Told asked request
   denied-so asked request first second blamed = inr (record { plain_denied = first; denied = second; blamed = blamed })
 
-  -- a call with one name, and with what else is the same
-  told-one : (x name : Name) (asked request : Request) → (IsReadAs reading x name → IsReadRequest reading asked request) → (IsNowhere plain x → allows plain asked ≡ false)
-      → (IsNowhere ledger name → allows ledger request ≡ false) → blames_variable plain asked ≡ blames_variable ledger request → IsReadAs wide x name → Told asked request
-  told-one x name asked request reads deny_plain denies blamed is = elim (each x name is) [
-    | inl read ↦ inl (reads read)
-    | inr gone ↦ denied-so asked request (deny_plain gone.0) (denies gone.1) blamed
-  ]
+  abbrev ToldDemand : (a b : Demand) → Type 0
+  ToldDemand a b = IsReadDemand reading a b ⊎ BothDenied (holds plain a) (holds ledger b)
 
-  pub told : (asked request : Request) → IsReadRequest wide asked request → Told asked request
-  told CreateBlock CreateBlock is = inl tt
-  told (SwitchToBlock x) (SwitchToBlock block) is = told-one x block (SwitchToBlock x) (SwitchToBlock block) (λ read. read) (deny-switch plain x) (deny-switch ledger block) refl is
-  told (SealBlock x) (SealBlock block) is = told-one x block (SealBlock x) (SealBlock block) (λ read. read) (deny-seal plain x) (deny-seal ledger block) refl is
-  told SealAllBlocks SealAllBlocks is = inl tt
-  told (InsertBlockAfter x y) (InsertBlockAfter block after) is = by (each x block is.0)
+  -- a demand is read, or is denied on both sides
+  demand-told : (a b : Demand) → IsReadDemand wide a b → ToldDemand a b
+  demand-told (AsksBoth a c) (AsksBoth b d) is = by (demand-told a b is.0) (demand-told c d is.1)
     where
-      by : IsReadAs reading x block ⊎ (IsNowhere plain x × IsNowhere ledger block) → Told (InsertBlockAfter x y) (InsertBlockAfter block after)
-      by (inl read) =
-          told-one y after (InsertBlockAfter x y) (InsertBlockAfter block after) (λ behind. (read, behind)) (deny-after plain x y) (deny-after ledger block after) refl is.1
-      by (inr gone) = denied-so (InsertBlockAfter x y) (InsertBlockAfter block after) (deny-insert plain x y gone.0) (deny-insert ledger block after gone.1) refl
-  told (SetColdBlock x) (SetColdBlock block) is = told-one x block (SetColdBlock x) (SetColdBlock block) (λ read. read) (no-block plain x) (no-block ledger block) refl is
-  told EnsureInsertedBlock EnsureInsertedBlock is = inl tt
-  told (AppendBlockParams x given) (AppendBlockParams block types) is =
-      told-one x block (AppendBlockParams x given) (AppendBlockParams block types) (λ read. (read, is.1)) (deny-params plain x given) (deny-params ledger block types) refl is.0
-  told (AppendFunctionParams x given) (AppendFunctionParams block types) is =
-      told-one x block (AppendFunctionParams x given) (AppendFunctionParams block types) (λ read. (read, is.1)) (deny-function-params plain x given) (deny-function-params ledger block types) refl is.0
-  told (DeclareVar given) (DeclareVar ty) is = inl is
-  told (DefVar number x) (DefVar variable value) is = by (each x value is.1)
+      by : ToldDemand a b → ToldDemand c d → ToldDemand (AsksBoth a c) (AsksBoth b d)
+      by (inl first) (inl second) = inl (first, second)
+      by (inl first) (inr denied) = inr (right-denied (holds plain a) (holds plain c) denied.0, right-denied (holds ledger b) (holds ledger d) denied.1)
+      by (inr denied) second = inr (left-denied (holds plain a) (holds plain c) denied.0, left-denied (holds ledger b) (holds ledger d) denied.1)
+  demand-told (AsksName test' x) (AsksName test name) is = by (one (passes plain test') (passes ledger test) (name-denied plain test') (name-denied ledger test) x name is.1)
+    where
+      by : IsReadAs reading x name ⊎ BothDenied (passes plain test' x) (passes ledger test name) → ToldDemand (AsksName test' x) (AsksName test name)
+      by (inl read) = inl (is.0, read)
+      by (inr denied) = inr denied
+  demand-told (AsksLeading jump here) (AsksLeading branch from) is = by (each jump branch is.0) (each here from is.1)
+    where
+      by : IsReadAs reading jump branch ⊎ (IsNowhere plain jump × IsNowhere ledger branch) → IsReadAs reading here from ⊎ (IsNowhere plain here × IsNowhere ledger from)
+          → ToldDemand (AsksLeading jump here) (AsksLeading branch from)
+      by (inl read) (inl source) = inl (read, source)
+      by (inl read) (inr gone) = inr (leading-denied plain jump here (inr gone.0), leading-denied ledger branch from (inr gone.1))
+      by (inr gone) source = inr (leading-denied plain jump here (inl gone.0), leading-denied ledger branch from (inl gone.1))
+  demand-told (AsksValues xs) (AsksValues names) is = values xs names is
+  demand-told (AsksEdges xs) (AsksEdges names) is =
+      either-all (IsReadAs wide) (IsReadAs reading) (λ x. is_some (edge_named plain x)) (λ x. is_some (edge_named ledger x)) named-edge xs names is
+  demand-told (AsksArguments xs) (AsksArguments arguments) is =
+      either-all (IsReadArgument wide) (IsReadArgument reading) (has_argument plain) (has_argument ledger) argument xs arguments is
+  demand-told (AsksItems xs) (AsksItems items) is = either-all (IsReadTableItem wide) (IsReadTableItem reading) (has_item plain) (has_item ledger) item xs items is
+  demand-told (AsksTargets xs) (AsksTargets edges) is = either-all (IsReadEdge wide) (IsReadEdge reading) (can_lead plain) (can_lead ledger) led xs edges is
+  demand-told (AsksEntries given) (AsksEntries entries) is = inl is
+  demand-told (AsksOpen inside) (AsksOpen within) is = inl is
+  demand-told AsksLeaving AsksLeaving is = inl tt
+  demand-told (AsksTables test') (AsksTables test) is = inl is
+  demand-told (AsksVariables test') (AsksVariables test) is = inl is
+  demand-told _ _ is = absurd is
+
+  told-so : (asked request : Request) → ReadDemands wide asked request → ReadBlame wide asked request → Told asked request
+  told-so asked request demands (NeitherBlames a r none' none) = by (demand-told demands.plain demands.script demands.reads)
+    where
+      by : ToldDemand demands.plain demands.script → Told asked request
+      by (inl read) = inl (demands.again reading read)
+      by (inr denied) = denied-so asked request (demands.asks' plain ∙ denied.0) (demands.asks ledger ∙ denied.1) (none' plain ∙ sym (none ledger))
+  told-so asked request demands (BothAssigned number variable x value same is) = by (each x value is)
     where
       by : IsReadAs reading x value ⊎ (IsNowhere plain x × IsNowhere ledger value) → Told (DefVar number x) (DefVar variable value)
-      by (inl read) = inl (is.0, read)
+      by (inl read) = inl (same, read)
       by (inr gone) =
           denied-so (DefVar number x) (DefVar variable value) (deny-assigned plain number x gone.0) (deny-assigned ledger variable value gone.1)
           (unblamed plain number x gone.0 ∙ sym (unblamed ledger variable value gone.1))
-  told (UseVar number) (UseVar variable) is = inl is
-  told (MakeEntry given) (MakeEntry entry) is = inl is
-  told (MakeEdge a) (MakeEdge b) is = by (edge-parts a b is)
-    where
-      by : IsReadEdge reading a b ⊎ BothDenied (has_block plain a.target) (has_block ledger b.target) ⊎ BothDenied (list_all (has_argument plain) a.arguments) (list_all (has_argument ledger) b.arguments)
-          → Told (MakeEdge a) (MakeEdge b)
-      by (inl read) = inl read
-      by (inr (inl denied)) = denied-so (MakeEdge a) (MakeEdge b) (deny-edge plain a (inl denied.0)) (deny-edge ledger b (inl denied.1)) refl
-      by (inr (inr denied)) = denied-so (MakeEdge a) (MakeEdge b) (deny-edge plain a (inr denied.0)) (deny-edge ledger b (inr denied.1)) refl
-  told (MakeJumpTable first names) (MakeJumpTable default entries) is =
-      by (either-all (IsReadAs wide) (IsReadAs reading) (λ x. is_some (edge_named plain x)) (λ x. is_some (edge_named ledger x)) named-edge (first ∷ names) (default ∷ entries) (is.0, is.1))
-    where
-      by : AllZip (IsReadAs reading) (first ∷ names) (default ∷ entries) ⊎ BothDenied (list_all (λ x. is_some (edge_named plain x)) (first ∷ names)) (list_all (λ x. is_some (edge_named ledger x)) (default ∷ entries))
-          → Told (MakeJumpTable first names) (MakeJumpTable default entries)
-      by (inl read) = inl (read.0, read.1)
-      by (inr denied) = denied-so (MakeJumpTable first names) (MakeJumpTable default entries) denied.0 denied.1 refl
-  told (MakeExceptionTable number first listed) (MakeExceptionTable signature normal items) is =
-      by (named-edge first normal is.1) (either-all (IsReadTableItem wide) (IsReadTableItem reading) (has_item plain) (has_item ledger) item listed items is.2)
-    where
-      ask : Request
-      ask = MakeExceptionTable number first listed
+  told-so asked request demands (BothUsed number variable same) = inl same
 
-      request : Request
-      request = MakeExceptionTable signature normal items
-
-      by : IsReadAs reading first normal ⊎ BothDenied (is_some (edge_named plain first)) (is_some (edge_named ledger normal))
-          → AllZip (IsReadTableItem reading) listed items ⊎ BothDenied (list_all (has_item plain) listed) (list_all (has_item ledger) items) → Told ask request
-      by (inl read) (inl rest) = inl (is.0, read, rest)
-      by (inl read) (inr denied) = denied-so ask request (deny-exceptions plain number first listed (inr denied.0)) (deny-exceptions ledger signature normal items (inr denied.1)) refl
-      by (inr denied) rest = denied-so ask request (deny-exceptions plain number first listed (inl denied.0)) (deny-exceptions ledger signature normal items (inl denied.1)) refl
-  told (Annotate inside names) (Annotate within given) is = by (values names given is.1)
-    where
-      by : AllZip (IsReadAs reading) names given ⊎ BothDenied (list_all (has_value plain) names) (list_all (has_value ledger) given) → Told (Annotate inside names) (Annotate within given)
-      by (inl read) = inl (is.0, read)
-      by (inr denied) =
-          denied-so (Annotate inside names) (Annotate within given) (right-denied (if inside then is_open plain plain.current else true) _ denied.0)
-          (right-denied (if within then is_open ledger ledger.current else true) _ denied.1) refl
-  told (NeedStackMap (OfVariable number)) (NeedStackMap (OfVariable variable)) is = inl is
-  told (NeedStackMap (OfValue x)) (NeedStackMap (OfValue name)) is =
-      told-one x name (NeedStackMap (OfValue x)) (NeedStackMap (OfValue name)) (λ read. read) (deny-need plain x) (deny-need ledger name) refl is
-  told (NeedStackMap (OfVariable number)) (NeedStackMap (OfValue name)) is = absurd is
-  told (NeedStackMap (OfValue x)) (NeedStackMap (OfVariable variable)) is = absurd is
-  told (Build given a) (Build entries b) is = by (named-parts a b is.1)
-    where
-      by : IsReadInstruction reading a b ⊎ (NamesNothing plain a × NamesNothing ledger b) → Told (Build given a) (Build entries b)
-      by (inl read) = inl (is.0, read)
-      by (inr nothing) = denied-so (Build given a) (Build entries b) (deny-build plain given a nothing.0) (deny-build ledger entries b nothing.1) refl
-  told (ChangeJumpDestination jump here there) (ChangeJumpDestination branch from to) is = by (each jump branch is.0) (each here from is.1)
-    where
-      ask : Request
-      ask = ChangeJumpDestination jump here there
-
-      request : Request
-      request = ChangeJumpDestination branch from to
-
-      by : IsReadAs reading jump branch ⊎ (IsNowhere plain jump × IsNowhere ledger branch) → IsReadAs reading here from ⊎ (IsNowhere plain here × IsNowhere ledger from) → Told ask request
-      by (inl read) (inl source) = told-one there to ask request (λ target. (read, source, target)) (deny-target plain jump here there) (deny-target ledger branch from to) refl is.2
-      by (inr gone) source = denied-so ask request (deny-branch plain jump here there gone.0) (deny-branch ledger branch from to gone.1) refl
-      by (inl read) (inr gone) = denied-so ask request (deny-source plain jump here there gone.0) (deny-source ledger branch from to gone.1) refl
-  told Finalize Finalize is = inl tt
-  told _ _ is = absurd is
+  pub told : (asked request : Request) → IsReadRequest wide asked request → Told asked request
+  told asked request is = let demands = read_demands wide asked request is in told-so asked request demands demands.blame
 
 -- THE LIST'S OWN LEDGER ---------------------------------------------------------------------------------------------------
 
