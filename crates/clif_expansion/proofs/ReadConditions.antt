@@ -16,7 +16,8 @@ use Rattle.clif_expansion.specs.ScriptCall.{Emit, call_allowed, can_emit, is_byt
 use Rattle.clif_expansion.proofs.Among.{any_leading, leading_empty, other_generated}
 use Rattle.clif_expansion.proofs.JoinedStates.{inserted_read}
 use Rattle.clif_expansion.proofs.Names.{same_read}
-use Rattle.clif_expansion.proofs.ReadDemands.{Demand, NameTest, IsABlock, IsUnfilled, IsUnsealed, IsOutside, IsInserted, IsPristine, IsUntouched, IsAnEdge, IsForStackMaps, IsOfVariable, AsksBoth, AsksName, AsksLeading, AsksValues, AsksEdges, AsksArguments, AsksItems, AsksTargets, AsksEntries, AsksOpen, AsksLeaving, AsksTables, AsksVariables, IsReadDemand, NeitherBlames, BothAssigned, BothUsed, ReadBlame, holds, passes, read_demands}
+use Rattle.clif_expansion.proofs.ReadDemands.{Demand, NameTest, IsABlock, IsUnfilled, IsUnsealed, IsOutside, IsInserted, IsPristine, IsUntouched, IsAnEdge, IsForStackMaps, IsOfVariable, AsksBoth, AsksName, AsksLeading, AsksValues, AsksEdges, AsksArguments, AsksItems, AsksTargets, AsksEntries, AsksOpen, AsksLeaving, AsksTables, AsksVariables, IsReadDemand, NeitherBlames, BothAssigned, BothUsed, ReadBlame, holds, passes}
+use Rattle.clif_expansion.proofs.ReadEffects.{read_demands}
 
 -- LISTS -------------------------------------------------------------------------------------------------------------------
 

@@ -1,6 +1,6 @@
--- What a request asks of the ledger before it may be made, beside what it asks with its names read: the same demands on names that are
--- read. Laws of the conditions on requests go over the kinds of demands, so that a new call needs its row here, and none there.
-use Rattle.std.proofs.Common.{◌≡◌, ℕ, Bool, true, false, ◌&&◌, List, ◌∷◌, refl, ap, ap₂}
+-- What a request asks of the ledger before it may be made: demands, of a few kinds. With its names read it asks the same demands, on names
+-- that are read. Laws of the conditions on requests go over the kinds of demands, and over no requests.
+use Rattle.std.proofs.Common.{◌≡◌, ℕ, Bool, true, false, ◌&&◌, List, refl}
 use Rattle.std.specs.Prelude.{if◌then◌else◌, is_some, not, option_map, slice_get}
 use Rattle.std.specs.List.{AllZip, list_all}
 use Rattle.clif_instructions.specs.Instruction.{ASignatureRef}
@@ -12,7 +12,7 @@ use Rattle.clif_meaning.specs.Acceptance.{allows, blames_variable, can_assign, c
 use Rattle.clif_meaning.specs.Instruction.{Argument, Edge, Operation, operation_entries}
 use Rattle.clif_meaning.specs.Ledger.{Ledger, VariableState, edge_named, has_block, has_instruction, has_predecessors, has_value, is_filled, is_inserted, is_pristine, is_sealed, leads_to, or_invalid, type_of, variable_type}
 use Rattle.clif_meaning.specs.Name.{Name}
-use Rattle.clif_meaning.specs.Request.{Request, CreateBlock, SwitchToBlock, SealBlock, SealAllBlocks, InsertBlockAfter, SetColdBlock, EnsureInsertedBlock, AppendBlockParams, AppendFunctionParams, DeclareVar, DefVar, UseVar, MakeEntry, MakeEdge, MakeJumpTable, MakeExceptionTable, Annotate, GivenEntry, TableItem, Build, ChangeJumpDestination, Finalize, OfVariable, OfValue, NeedStackMap}
+use Rattle.clif_meaning.specs.Request.{Request, DefVar, UseVar, GivenEntry, TableItem}
 use Rattle.clif_expansion.specs.Joining.{IsReadRequest, IsReadTableItem}
 use Rattle.clif_expansion.specs.Reading.{IsReadArgument, IsReadAs, IsReadEdge, Reading}
 
@@ -123,235 +123,29 @@ pub record ReadDemands (wide : Reading) (asked request : Request) : Type 0 where
   pub blame : ReadBlame wide asked request
 
 -- what variables say: one is declared, and one may be marked
-abbrev declares : ℕ → List VariableState → Bool
+abbrev pub declares : ℕ → List VariableState → Bool
 declares variable states = is_some (option_map (λ (state : VariableState). state.ty) (slice_get states variable))
 
-abbrev may_mark_one : ℕ → List VariableState → Bool
+abbrev pub may_mark_one : ℕ → List VariableState → Bool
 may_mark_one variable states = may_mark (slice_get states variable)
 
--- what tables say: it is a type, whatever they hold, an entry may be made, a signature was imported, an operation may be built at the type, and the entries that it names were made
-abbrev has_type : «Type» → TableLists → Bool
+-- what tables say: it is a type, whatever they hold, an entry may be made, a signature was imported, an operation may be built at the type,
+-- and the entries that it names were made
+abbrev pub has_type : «Type» → TableLists → Bool
 has_type ty tables = is_type ty
 
-abbrev makes : TableEntry → TableLists → Bool
+abbrev pub makes : TableEntry → TableLists → Bool
 makes entry tables = can_make tables entry
 
-abbrev has_signature : ℕ → TableLists → Bool
+abbrev pub has_signature : ℕ → TableLists → Bool
 has_signature signature tables = has_entry tables (ASignatureRef signature)
 
-abbrev operates : Operation → «Type» → TableLists → Bool
+abbrev pub operates : Operation → «Type» → TableLists → Bool
 operates operation ty tables = can_operate operation ty
 
-abbrev has_entries : Operation → TableLists → Bool
+abbrev pub has_entries : Operation → TableLists → Bool
 has_entries operation tables = list_all (has_entry tables) (operation_entries operation)
 
-two_last : (a b c : Bool) → ((a && b) && c) ≡ (a && (b && c))
+pub two_last : (a b c : Bool) → ((a && b) && c) ≡ (a && (b && c))
 two_last true b c = refl
 two_last false b c = refl
-
--- A row for each request.
-pub read_demands : (wide : Reading) (asked request : Request) → IsReadRequest wide asked request → ReadDemands wide asked request
-read_demands wide CreateBlock CreateBlock is = record {
-  plain = asks_nothing;
-  script = asks_nothing;
-  asks' = λ ledger. refl;
-  asks = λ ledger. refl;
-  reads = refl;
-  again = λ reading read. tt;
-  blame = NeitherBlames _ _ (λ ledger. refl) (λ ledger. refl);
-}
-read_demands wide (SwitchToBlock x) (SwitchToBlock block) is = record {
-  plain = AsksBoth (AsksName IsUnfilled x) AsksLeaving;
-  script = AsksBoth (AsksName IsUnfilled block) AsksLeaving;
-  asks' = λ ledger. refl;
-  asks = λ ledger. refl;
-  reads = ((refl, is), tt);
-  again = λ reading read. read.0.1;
-  blame = NeitherBlames _ _ (λ ledger. refl) (λ ledger. refl);
-}
-read_demands wide (SealBlock x) (SealBlock block) is = record {
-  plain = AsksName IsUnsealed x;
-  script = AsksName IsUnsealed block;
-  asks' = λ ledger. refl;
-  asks = λ ledger. refl;
-  reads = (refl, is);
-  again = λ reading read. read.1;
-  blame = NeitherBlames _ _ (λ ledger. refl) (λ ledger. refl);
-}
-read_demands wide SealAllBlocks SealAllBlocks is = record {
-  plain = asks_nothing;
-  script = asks_nothing;
-  asks' = λ ledger. refl;
-  asks = λ ledger. refl;
-  reads = refl;
-  again = λ reading read. tt;
-  blame = NeitherBlames _ _ (λ ledger. refl) (λ ledger. refl);
-}
-read_demands wide (InsertBlockAfter x behind) (InsertBlockAfter block after) is = record {
-  plain = AsksBoth (AsksName IsOutside x) (AsksName IsInserted behind);
-  script = AsksBoth (AsksName IsOutside block) (AsksName IsInserted after);
-  asks' = λ ledger. refl;
-  asks = λ ledger. refl;
-  reads = ((refl, is.0), (refl, is.1));
-  again = λ reading read. (read.0.1, read.1.1);
-  blame = NeitherBlames _ _ (λ ledger. refl) (λ ledger. refl);
-}
-read_demands wide (SetColdBlock x) (SetColdBlock block) is = record {
-  plain = AsksName IsABlock x;
-  script = AsksName IsABlock block;
-  asks' = λ ledger. refl;
-  asks = λ ledger. refl;
-  reads = (refl, is);
-  again = λ reading read. read.1;
-  blame = NeitherBlames _ _ (λ ledger. refl) (λ ledger. refl);
-}
-read_demands wide EnsureInsertedBlock EnsureInsertedBlock is = record {
-  plain = AsksOpen true;
-  script = AsksOpen true;
-  asks' = λ ledger. refl;
-  asks = λ ledger. refl;
-  reads = refl;
-  again = λ reading read. tt;
-  blame = NeitherBlames _ _ (λ ledger. refl) (λ ledger. refl);
-}
-read_demands wide (AppendBlockParams x types') (AppendBlockParams block types) is = record {
-  plain = AsksName IsPristine x;
-  script = AsksName IsPristine block;
-  asks' = λ ledger. refl;
-  asks = λ ledger. refl;
-  reads = (refl, is.0);
-  again = λ reading read. (read.1, is.1);
-  blame = NeitherBlames _ _ (λ ledger. refl) (λ ledger. refl);
-}
-read_demands wide (AppendFunctionParams x types') (AppendFunctionParams block types) is = record {
-  plain = AsksName IsUntouched x;
-  script = AsksName IsUntouched block;
-  asks' = λ ledger. refl;
-  asks = λ ledger. refl;
-  reads = (refl, is.0);
-  again = λ reading read. (read.1, is.1);
-  blame = NeitherBlames _ _ (λ ledger. refl) (λ ledger. refl);
-}
-read_demands wide (DeclareVar ty') (DeclareVar ty) is = record {
-  plain = AsksTables (has_type ty');
-  script = AsksTables (has_type ty);
-  asks' = λ ledger. refl;
-  asks = λ ledger. refl;
-  reads = ap has_type is;
-  again = λ reading read. is;
-  blame = NeitherBlames _ _ (λ ledger. refl) (λ ledger. refl);
-}
-read_demands wide (DefVar number x) (DefVar variable value) is = record {
-  plain = AsksBoth (AsksOpen true) (AsksName (IsOfVariable number) x);
-  script = AsksBoth (AsksOpen true) (AsksName (IsOfVariable variable) value);
-  asks' = λ ledger. refl;
-  asks = λ ledger. refl;
-  reads = (refl, (ap IsOfVariable is.0, is.1));
-  again = λ reading read. (is.0, read.1.1);
-  blame = BothAssigned number variable x value is.0 is.1;
-}
-read_demands wide (UseVar number) (UseVar variable) is = record {
-  plain = AsksBoth (AsksOpen true) (AsksVariables (declares number));
-  script = AsksBoth (AsksOpen true) (AsksVariables (declares variable));
-  asks' = λ ledger. refl;
-  asks = λ ledger. refl;
-  reads = (refl, ap declares is);
-  again = λ reading read. is;
-  blame = BothUsed number variable is;
-}
-read_demands wide (MakeEntry entry') (MakeEntry entry) is = record {
-  plain = AsksTables (makes entry');
-  script = AsksTables (makes entry);
-  asks' = λ ledger. refl;
-  asks = λ ledger. refl;
-  reads = ap makes is;
-  again = λ reading read. is;
-  blame = NeitherBlames _ _ (λ ledger. refl) (λ ledger. refl);
-}
-read_demands wide (MakeEdge edge') (MakeEdge edge) is = record {
-  plain = AsksBoth (AsksName IsABlock edge'.target) (AsksArguments edge'.arguments);
-  script = AsksBoth (AsksName IsABlock edge.target) (AsksArguments edge.arguments);
-  asks' = λ ledger. refl;
-  asks = λ ledger. refl;
-  reads = ((refl, is.target), is.arguments);
-  again = λ reading read. record { target = read.0.1; arguments = read.1 };
-  blame = NeitherBlames _ _ (λ ledger. refl) (λ ledger. refl);
-}
-read_demands wide (MakeJumpTable first names) (MakeJumpTable default entries) is = record {
-  plain = AsksEdges (first ∷ names);
-  script = AsksEdges (default ∷ entries);
-  asks' = λ ledger. refl;
-  asks = λ ledger. refl;
-  reads = (is.0, is.1);
-  again = λ reading read. (read.0, read.1);
-  blame = NeitherBlames _ _ (λ ledger. refl) (λ ledger. refl);
-}
-read_demands wide (MakeExceptionTable number first listed) (MakeExceptionTable signature normal items) is = record {
-  plain = AsksBoth (AsksBoth (AsksName IsAnEdge first) (AsksItems listed)) (AsksTables (has_signature number));
-  script = AsksBoth (AsksBoth (AsksName IsAnEdge normal) (AsksItems items)) (AsksTables (has_signature signature));
-  asks' = λ ledger. refl;
-  asks = λ ledger. refl;
-  reads = (((refl, is.1), is.2), ap has_signature is.0);
-  again = λ reading read. (is.0, read.0.0.1, read.0.1);
-  blame = NeitherBlames _ _ (λ ledger. refl) (λ ledger. refl);
-}
-read_demands wide (Annotate inside names) (Annotate within values) is = record {
-  plain = AsksBoth (AsksOpen inside) (AsksValues names);
-  script = AsksBoth (AsksOpen within) (AsksValues values);
-  asks' = λ ledger. refl;
-  asks = λ ledger. refl;
-  reads = (is.0, is.1);
-  again = λ reading read. (is.0, read.1);
-  blame = NeitherBlames _ _ (λ ledger. refl) (λ ledger. refl);
-}
-read_demands wide (NeedStackMap (OfVariable number)) (NeedStackMap (OfVariable variable)) is = record {
-  plain = AsksVariables (may_mark_one number);
-  script = AsksVariables (may_mark_one variable);
-  asks' = λ ledger. refl;
-  asks = λ ledger. refl;
-  reads = ap may_mark_one is;
-  again = λ reading read. is;
-  blame = NeitherBlames _ _ (λ ledger. refl) (λ ledger. refl);
-}
-read_demands wide (NeedStackMap (OfValue x)) (NeedStackMap (OfValue value)) is = record {
-  plain = AsksName IsForStackMaps x;
-  script = AsksName IsForStackMaps value;
-  asks' = λ ledger. refl;
-  asks = λ ledger. refl;
-  reads = (refl, is);
-  again = λ reading read. read.1;
-  blame = NeitherBlames _ _ (λ ledger. refl) (λ ledger. refl);
-}
-read_demands wide (Build entries' instruction') (Build entries instruction) is = record {
-  plain = AsksBoth (AsksBoth (AsksBoth (AsksBoth (AsksBoth (AsksBoth (AsksValues instruction'.contexts) (AsksEntries entries')) (AsksOpen true)) (AsksValues instruction'.operands)) (AsksTargets instruction'.edges))
-      (AsksTables (operates instruction'.operation instruction'.controlling))) (AsksTables (has_entries instruction'.operation));
-  script = AsksBoth (AsksBoth (AsksBoth (AsksBoth (AsksBoth (AsksBoth (AsksValues instruction.contexts) (AsksEntries entries)) (AsksOpen true)) (AsksValues instruction.operands)) (AsksTargets instruction.edges))
-      (AsksTables (operates instruction.operation instruction.controlling))) (AsksTables (has_entries instruction.operation));
-  asks' = λ ledger. refl;
-  asks = λ ledger. refl;
-  reads = ((((((is.1.contexts, is.0), refl), is.1.operands), is.1.edges), ap₂ operates is.1.operation is.1.controlling), ap has_entries is.1.operation);
-  again = λ reading read. (
-    is.0,
-    record { operation = is.1.operation; controlling = is.1.controlling; operands = read.0.0.0.1; contexts = read.0.0.0.0.0.0; edges = read.0.0.1 },
-  );
-  blame = NeitherBlames _ _ (λ ledger. refl) (λ ledger. refl);
-}
-read_demands wide (ChangeJumpDestination jump at there) (ChangeJumpDestination branch from to) is = record {
-  plain = AsksBoth (AsksLeading jump at) (AsksName IsUnsealed there);
-  script = AsksBoth (AsksLeading branch from) (AsksName IsUnsealed to);
-  asks' = λ ledger. two_last (holds ledger (AsksLeading jump at)) (has_block ledger there) (not (is_sealed ledger there));
-  asks = λ ledger. two_last (holds ledger (AsksLeading branch from)) (has_block ledger to) (not (is_sealed ledger to));
-  reads = ((is.0, is.1), (refl, is.2));
-  again = λ reading read. (read.0.0, read.0.1, read.1.1);
-  blame = NeitherBlames _ _ (λ ledger. refl) (λ ledger. refl);
-}
-read_demands wide Finalize Finalize is = record {
-  plain = asks_nothing;
-  script = asks_nothing;
-  asks' = λ ledger. refl;
-  asks = λ ledger. refl;
-  reads = refl;
-  again = λ reading read. tt;
-  blame = NeitherBlames _ _ (λ ledger. refl) (λ ledger. refl);
-}
-read_demands wide _ _ is = absurd is

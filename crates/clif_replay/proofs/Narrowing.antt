@@ -15,7 +15,8 @@ use Rattle.clif_expansion.specs.Reading.{IsReadArgument, IsReadAs, IsReadEdge, I
 use Rattle.clif_expansion.specs.ScriptCall.{Emit, call_allowed, can_emit, takes_byte}
 use Rattle.clif_expansion.specs.Walk.{IsGenerated}
 use Rattle.clif_expansion.proofs.Names.{names_equal}
-use Rattle.clif_expansion.proofs.ReadDemands.{Demand, NameTest, IsABlock, IsUnfilled, IsUnsealed, IsOutside, IsInserted, IsPristine, IsUntouched, IsAnEdge, IsForStackMaps, IsOfVariable, AsksBoth, AsksName, AsksLeading, AsksValues, AsksEdges, AsksArguments, AsksItems, AsksTargets, AsksEntries, AsksOpen, AsksLeaving, AsksTables, AsksVariables, IsReadDemand, holds, passes, read_demands}
+use Rattle.clif_expansion.proofs.ReadDemands.{Demand, NameTest, IsABlock, IsUnfilled, IsUnsealed, IsOutside, IsInserted, IsPristine, IsUntouched, IsAnEdge, IsForStackMaps, IsOfVariable, AsksBoth, AsksName, AsksLeading, AsksValues, AsksEdges, AsksArguments, AsksItems, AsksTargets, AsksEntries, AsksOpen, AsksLeaving, AsksTables, AsksVariables, IsReadDemand, holds, passes}
+use Rattle.clif_expansion.proofs.ReadEffects.{read_demands}
 use Rattle.clif_builder.proofs.LedgerLists.{and-then-some}
 
 -- an answer is there where a test finds it

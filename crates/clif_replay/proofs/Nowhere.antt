@@ -15,7 +15,8 @@ use Rattle.clif_expansion.specs.Reading.{IsReadArgument, IsReadAs, IsReadEdge, I
 use Rattle.clif_expansion.specs.ScriptCall.{Emit, call_allowed}
 use Rattle.clif_expansion.specs.Walk.{IsGenerated}
 use Rattle.clif_expansion.proofs.Names.{equal_names, names_equal}
-use Rattle.clif_expansion.proofs.ReadDemands.{Demand, NameTest, IsABlock, IsUnfilled, IsUnsealed, IsOutside, IsInserted, IsPristine, IsUntouched, IsAnEdge, IsForStackMaps, IsOfVariable, AsksBoth, AsksName, AsksLeading, AsksValues, AsksEdges, AsksArguments, AsksItems, AsksTargets, AsksEntries, AsksOpen, AsksLeaving, AsksTables, AsksVariables, IsReadDemand, NeitherBlames, BothAssigned, BothUsed, ReadBlame, ReadDemands, holds, passes, read_demands}
+use Rattle.clif_expansion.proofs.ReadDemands.{Demand, NameTest, IsABlock, IsUnfilled, IsUnsealed, IsOutside, IsInserted, IsPristine, IsUntouched, IsAnEdge, IsForStackMaps, IsOfVariable, AsksBoth, AsksName, AsksLeading, AsksValues, AsksEdges, AsksArguments, AsksItems, AsksTargets, AsksEntries, AsksOpen, AsksLeaving, AsksTables, AsksVariables, IsReadDemand, NeitherBlames, BothAssigned, BothUsed, ReadBlame, ReadDemands, holds, passes}
+use Rattle.clif_expansion.proofs.ReadEffects.{read_demands}
 
 -- no answer has the name, and no block
 pub record IsNowhere (ledger : Ledger) (x : Name) : Type 0 where
