@@ -7,5 +7,4 @@ pub mod Given
 pub mod Headline
 pub mod Verdicts
 pub mod Alone
-pub mod Asked
 pub mod HeadlineExamples
