@@ -23,7 +23,7 @@ use Rattle.clif_builder.specs.declared.context.BlockStatus.TheVariants.{Filled}
 use Rattle.clif_builder.specs.Context.{SameVariables, begun, status_of}
 use Rattle.clif_builder.specs.declared.builder.FunctionBuilder.{FunctionBuilder}
 use Rattle.clif_builder.specs.Builder.{Appends, AppendsPair, AppendsValue, CanLead, FillsCurrent, HasCurrent, IsLeft, SameLoans, status_after}
-use Rattle.clif_builder.specs.Built.{Builds, BuildsPair, BuildsValue, after_build, numbers_of, numbers_with, numbers_with_pair}
+use Rattle.clif_builder.specs.Built.{Builds, BuildsPair, BuildsValue, StaysIfFull, after_build, numbers_of, numbers_with, numbers_with_pair}
 use Rattle.clif_builder.specs.Construction.{IsDeclared}
 use Rattle.clif_meaning.specs.Instruction.{Instruction}
 use Rattle.clif_meaning.specs.Name.{Name}
@@ -77,7 +77,7 @@ module _ {R : Type 0} (old new : FunctionBuilder R) (shape : InstructionData) (t
     (fails : new.failed ≡ is_err r) (appends : IfOk r (Appends old new block shape ty))
     (declares : IfOk r (λ inst. IsDeclared old.ctx.now.parts.ssa inst (targets (destinations shape)) new.ctx.now.parts.ssa))
     (ssa : is_branch shape ≡ false → new.ctx.now.parts.ssa ≡ old.ctx.now.parts.ssa) (variables : SameVariables old.ctx.now.parts new.ctx.now.parts)
-    (full : r ≡ Err Full → HasNoRoom old.func.now (count_of_results old.func.now.tables shape)) (never_failed : r ≢ Err Failed) (looks_once : LooksOnce old.ctx.now.parts.ssa → LooksOnce new.ctx.now.parts.ssa) where
+    (full : r ≡ Err Full → HasNoRoom old.func.now (count_of_results old.func.now.tables shape)) (full_stays : StaysIfFull old new r) (never_failed : r ≢ Err Failed) (looks_once : LooksOnce old.ctx.now.parts.ssa → LooksOnce new.ctx.now.parts.ssa) where
   appends_at : IfSome old.position (λ block. IfOk r (Appends old new block shape ty))
   appends_at = subst (λ (o : Option ℕ). IfSome o (λ b. IfOk r (Appends old new b shape ty))) (sym at) appends
 
@@ -105,6 +105,7 @@ module _ {R : Type 0} (old new : FunctionBuilder R) (shape : InstructionData) (t
         srcloc = srcloc;
         full = full;
         full_table = λ few is. no_room_few old.func.now (count_of_results old.func.now.tables shape) consistent.values_fit few (full is);
+        full_stays = full_stays;
         failed = (λ is. absurd (never_failed is), λ failed. let no_way : ⊥ = cc in absurd no_way);
         unchanged = λ failed. let no_way : ⊥ = cc in absurd no_way;
         fails = fails;
@@ -149,6 +150,7 @@ builds_value_refused old new shape ty e no_branch one built =
       position = built.position;
       srcloc = built.srcloc;
       full = built.full_table few;
+      full_stays = built.full_stays;
       failed = built.failed;
       unchanged = built.unchanged;
       fails = built.fails;
@@ -175,6 +177,7 @@ builds_pair_refused old new shape ty e no_branch two built =
       position = built.position;
       srcloc = built.srcloc;
       full = λ is. subst (HasNoRoom old.func.now) two (built.full (ap (λ (x : BuildError). Err x) (error_is e Full is)));
+      full_stays = λ is. built.full_stays (ap (λ (x : BuildError). Err x) (error_is e Full is));
       failed = (λ is. built.failed.0 (ap (λ (x : BuildError). Err x) (error_is e Failed is)), λ failed. ap (λ (x : BuildError). Err x) (number_error e Failed (built.failed.1 failed)));
       unchanged = built.unchanged;
       fails = built.fails;
@@ -218,6 +221,7 @@ module _ {R : Type 0} (old new : FunctionBuilder R) (shape : InstructionData) (t
     position = built.position;
     srcloc = built.srcloc;
     full = λ full. let no_way : ⊥ = cc in absurd no_way;
+    full_stays = λ full. let no_way : ⊥ = cc in absurd no_way;
     failed = (
       λ failed. let no_way : ⊥ = cc in absurd no_way,
       λ failed. let refused : ◌≡◌ {A = Result ℕ BuildError} (Ok inst) (Err Failed) = built.failed.1 failed in let no_way : ⊥ = cc in absurd no_way,
@@ -292,6 +296,7 @@ module _ {R : Type 0} (old new : FunctionBuilder R) (shape : InstructionData) (t
     position = built.position;
     srcloc = built.srcloc;
     full = λ full. let no_way : ⊥ = cc in absurd no_way;
+    full_stays = λ full. let no_way : ⊥ = cc in absurd no_way;
     failed = (
       λ failed. let no_way : ⊥ = cc in absurd no_way,
       λ failed. let refused : ◌≡◌ {A = Result ℕ BuildError} (Ok inst) (Err Failed) = built.failed.1 failed in let no_way : ⊥ = cc in absurd no_way,

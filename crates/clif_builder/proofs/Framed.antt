@@ -15,7 +15,7 @@ use Rattle.clif_instructions.specs.Members.{stands_in}
 use Rattle.clif_simulation.specs.Carries.{with_params}
 use Rattle.clif_ssa.specs.Constructs.{OnlyConstructs}
 use Rattle.clif_ssa.specs.Ssa.{SameBlocks, SamePredecessors, SealedStays}
-use Rattle.clif_records.specs.Tables.{is_yes}
+use Rattle.clif_records.specs.Tables.{is_yes, pending_of}
 use Rattle.clif_builder.specs.Order.{IsUntouched}
 use Rattle.clif_builder.specs.declared.context.BlockStatus.{BlockStatus}
 use Rattle.clif_builder.specs.declared.context.BlockStatus.TheVariants.{Empty, Partial, Filled}
@@ -245,4 +245,5 @@ created-untouched (Ok block) f c d number sealed leads status fresh = subst (IsU
   unsealed = ap is_yes (sealed (length f.blocks)) ∙ fresh.unsealed;
   pristine = ap (λ (xs : List BlockStatus). slice_index_or xs (length f.blocks) Empty) status ∙ fresh.pristine;
   alone = leads (length f.blocks) ∙ fresh.alone;
+  none_waits = ap pending_of (sealed (length f.blocks)) ∙ fresh.none_waits;
 })

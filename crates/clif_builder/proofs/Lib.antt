@@ -21,6 +21,7 @@ pub mod Declaring
 pub mod Growing
 pub mod Labelling
 pub mod Laid
+mod Fresh
 pub mod Named
 mod Appending
 pub mod Statuses
@@ -56,3 +57,4 @@ mod Spilled
 pub mod ReadByNumber
 pub mod StandingForCalls
 mod SealingAlone
+pub mod Keeping

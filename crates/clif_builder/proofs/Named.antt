@@ -1,5 +1,5 @@
 -- What the construction names exists: what calls of the builder keep of it.
-use Rattle.std.specs.Coded.{Coded-set, coded_option, coded_ℕ}
+use Rattle.std.specs.Coded.{Coded-set, coded_list, coded_option, coded_ℕ}
 use Rattle.clif_types.specs.contracts.types.«Type» as value_type
 use Rattle.clif_builder.specs.contracts.context.BlockStatus as block_status
 use Rattle.std.proofs.Common.{◌≡◌, ℕ, ◌<◌, ◌==◌, ◌&&◌, if◌then◌else◌, Bool, true, false, List, length, sym, ◌∙◌, ap, subst, arith}
@@ -12,8 +12,9 @@ use Rattle.clif_ir.specs.Body.{Body, value_at}
 use Rattle.clif_ir.specs.Changes.{inserted_in, with_block, with_inst, with_param}
 use Rattle.clif_instructions.specs.declared.insert_at.InsertAt.{InsertAt}
 use Rattle.clif_instructions.specs.declared.instructions.InstructionData.{InstructionData}
-use Rattle.clif_records.specs.Tables.{SsaBlock, pending_of, predecessors_at, sealed_at}
+use Rattle.clif_records.specs.Tables.{SsaBlock, pending_code, pending_of, predecessors_at, sealed_at}
 use Rattle.clif_ssa.specs.Ssa.{SsaState, NamesExist, record_of, Records, SameRecords}
+use Rattle.clif_builder.proofs.Fresh.{new_waits}
 use Rattle.clif_builder.proofs.Growing.{Grows-inserted, Grows-with_block, Grows-with_inst, Grows-with_param}
 use Rattle.clif_builder.specs.Construction.{IsUse}
 use Rattle.clif_builder.specs.Context.{Begins, ContextState, is_untouched}
@@ -72,6 +73,7 @@ kept_fresh f c failed sound kept = record {
   unsealed = ∥∥₁_elim kept (search props) (λ k. ((k.in_order sound).fresh (length f.blocks) (omega arith)).0);
   pristine = ∥∥₁_elim kept (Coded-set (block_status.the_row).coded _ _) (λ k. ((k.in_order sound).fresh (length f.blocks) (omega arith)).1);
   alone = ∥∥₁_elim kept (search props) (λ k. ((k.in_order sound).fresh (length f.blocks) (omega arith)).2);
+  none_waits = ∥∥₁_elim kept (Coded-set (coded_list pending_code) _ _) (λ k. new_waits f c (k.in_order sound));
 }
 
 -- a variable that is declared, and that no call used or assigned, has no record

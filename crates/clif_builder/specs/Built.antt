@@ -44,6 +44,11 @@ numbers_with_pair b pair = length b.func.now.insts ∷ pair.0 ∷ pair.1 ∷ []
 abbrev pub HasFullTable : {R : Type 0} → FunctionBuilder R → Type 0
 HasFullTable b = (length b.func.now.insts ≡ 2 ^ 32 - 1) ⊎ (length b.func.now.values ≡ 2 ^ 32 - 1)
 
+-- where a table is full the tables of instructions and of values stay as they are
+abbrev pub StaysIfFull : {A : Type 0} → {R : Type 0} → FunctionBuilder R → FunctionBuilder R → Result A BuildError → Type 0
+StaysIfFull old new answer =
+    answer ≡ Err Full → (new.func.now.insts ≡ old.func.now.insts) × (new.func.now.values ≡ old.func.now.values)
+
 -- An instruction of this shape was to be built at the end of the current block; the answer is its number, or an error.
 pub record Builds {R : Type 0} (old new : FunctionBuilder R) (shape : InstructionData) (ty : «Type») (answer : Result ℕ BuildError) : Type 0 where
   pub loans : SameLoans old new
@@ -55,6 +60,7 @@ pub record Builds {R : Type 0} (old new : FunctionBuilder R) (shape : Instructio
   pub srcloc : new.srcloc ≡ old.srcloc
   pub full : answer ≡ Err Full → HasNoRoom old.func.now (count_of_results old.func.now.tables shape)
   pub full_table : count_of_results old.func.now.tables shape ≤ 1 → answer ≡ Err Full → HasFullTable old
+  pub full_stays : StaysIfFull old new answer
   pub failed : (answer ≡ Err Failed) ↔ IsTrue old.failed
   pub unchanged : IsTrue old.failed → new ≡ old
   pub fails : new.failed ≡ is_err answer
@@ -87,6 +93,7 @@ pub record BuildsValue {R : Type 0} (old new : FunctionBuilder R) (shape : Instr
   pub position : new.position ≡ old.position
   pub srcloc : new.srcloc ≡ old.srcloc
   pub full : answer ≡ Err Full → HasFullTable old
+  pub full_stays : StaysIfFull old new answer
   pub failed : (answer ≡ Err Failed) ↔ IsTrue old.failed
   pub unchanged : IsTrue old.failed → new ≡ old
   pub fails : new.failed ≡ is_err answer
@@ -114,6 +121,7 @@ pub record BuildsPair {R : Type 0} (old new : FunctionBuilder R) (shape : Instru
   pub position : new.position ≡ old.position
   pub srcloc : new.srcloc ≡ old.srcloc
   pub full : answer ≡ Err Full → HasNoRoom old.func.now 2
+  pub full_stays : StaysIfFull old new answer
   pub failed : (answer ≡ Err Failed) ↔ IsTrue old.failed
   pub unchanged : IsTrue old.failed → new ≡ old
   pub fails : new.failed ≡ is_err answer

@@ -12,6 +12,7 @@ pub mod Recorded
 pub mod Marks
 pub mod Ledger
 pub mod Growth
+pub mod Keeping
 pub mod StandsFor
 pub mod Built
 pub mod Calls

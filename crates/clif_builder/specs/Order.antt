@@ -9,7 +9,7 @@ use Rattle.clif_ssa.specs.LookUp.{branch_block}
 use Rattle.clif_ssa.specs.Own.{Own}
 use Rattle.clif_ssa.specs.Ssa.{NamesExist, predecessors_of, sealed_of}
 use Rattle.clif_ssa.specs.Structured.{Structured, VariableTypes}
-use Rattle.clif_records.specs.Tables.{is_yes}
+use Rattle.clif_records.specs.Tables.{is_yes, pending_of}
 use Rattle.clif_builder.specs.declared.context.BlockStatus.TheVariants.{Empty, Filled}
 use Rattle.clif_builder.specs.Context.{ContextState, status_of}
 use Rattle.clif_builder.specs.Tracking.{AskedFits}
@@ -37,11 +37,13 @@ IsStructured own f c = (types : VariableTypes) → AreTypesOf c types → Struct
 abbrev pub AloneUnlessBegun : Own → Body → ContextState → ℕ → Type 0
 AloneUnlessBegun own f c block = ((block_at f block).params ≡ own.params block) ⊎ IsBegun f c block
 
--- a block of which the construction knows nothing: it isn't sealed, nothing was made in it, and nothing leads to it
+-- a block of which the construction knows nothing: it isn't sealed, nothing was made in it, nothing leads to it, and no parameter waits
+-- in it until it is sealed
 pub record IsUntouched (c : ContextState) (block : ℕ) : Type 0 where
   pub unsealed : is_yes (sealed_of c.ssa block) ≡ false
   pub pristine : status_of c block ≡ Empty
   pub alone : predecessors_of c.ssa block ≡ []
+  pub none_waits : pending_of (sealed_of c.ssa block) ≡ []
 
 -- The parts are in order.
 pub record IsInOrder (f : Body) (c : ContextState) : Type 0 where

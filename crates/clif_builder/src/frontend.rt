@@ -247,6 +247,7 @@ impl<'a, R> FunctionBuilder<'a, R> {
         ensures status { self.new.ctx.now.parts.status ≡ self.old.ctx.now.parts.status }
         ensures variables { self.new.ctx.now.parts.variables ≡ self.old.ctx.now.parts.variables }
         ensures full { result ≡ Err BuildError.Full → length self.old.func.now.blocks ≡ 2 ^ 32 - 1 }
+        ensures full_stays { result ≡ Err BuildError.Full → self.new.func.now ≡ self.old.func.now }
         ensures told { IsTold self.old self.new result
             (λ _. Unit {0})
             (λ block. answered CreateBlock (block ∷ [])) }
@@ -606,6 +607,7 @@ fn make_block(func: &mut Function, ctx: &mut ContextParts) -> Result<Block, Buil
     ensures status { ctx.new.status ≡ ctx.old.status }
     ensures variables { SameVariables ctx.old ctx.new }
     ensures full { result ≡ Err BuildError.Full → length func.old.blocks ≡ 2 ^ 32 - 1 }
+    ensures full_stays { result ≡ Err BuildError.Full → func.new ≡ func.old }
     ensures never_failed { result ≢ Err BuildError.Failed }
     ensures known { IfOk result (λ b. b < length ctx.new.ssa.blocks) }
     ensures exists { IfOk result (λ b. b < length func.new.blocks) }

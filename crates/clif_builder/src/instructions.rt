@@ -250,6 +250,8 @@ fn append(
     ensures variables { SameVariables ctx.old ctx.new }
     ensures full { result ≡ Err BuildError.Full → HasNoRoom func.old
         (count_of_results func.old.tables shape) }
+    ensures full_stays { result ≡ Err BuildError.Full
+        → (func.new.insts ≡ func.old.insts) × (func.new.values ≡ func.old.values) }
     ensures never_failed { result ≢ Err BuildError.Failed }
 {
     begin_block(func, ctx, block)?;

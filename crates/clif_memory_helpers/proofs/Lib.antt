@@ -1,5 +1,4 @@
 -- Proofs of this crate.
-mod Keeping
 mod Lines
 mod Chains
 mod Pieces

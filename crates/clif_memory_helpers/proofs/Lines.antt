@@ -20,8 +20,8 @@ use Rattle.clif_builder.specs.Built.{Builds, BuildsValue}
 use Rattle.clif_builder.specs.Context.{ContextState, FillsNone, status_of}
 use Rattle.clif_builder.specs.Entries.{MakesEntry}
 use Rattle.clif_builder.specs.Growth.{Grows, RemembersIn, TypesStay}
-use Rattle.clif_memory_helpers.specs.Keeping.{KeepsState}
-use Rattle.clif_memory_helpers.proofs.Keeping.{built_keeps, built_tables, keeps_insts, keeps_none, keeps_on, value_keeps, value_tables}
+use Rattle.clif_builder.specs.Keeping.{KeepsState}
+use Rattle.clif_builder.proofs.Keeping.{built_keeps, built_tables, keeps_insts, keeps_none, keeps_on, value_keeps, value_tables}
 use Rattle.clif_memory_helpers.specs.Lines.{InLine, MayImport}
 
 not_failed : {A : Type 0} (a : A) → Ok a ≡ Err Failed → ⊥
@@ -194,19 +194,19 @@ module _ {R : Type 0} (old new : FunctionBuilder R) (shape : InstructionData) (t
   tables_same same = subst (MayImport old.func.now.tables) (sym same) refl
 
   value_kept : (r : Result ℕ BuildError) → BuildsValue old new shape ty r → OnOk r (KeepsState old new)
-  value_kept (Ok v) builds = value_keeps old new shape ty current v builds
+  value_kept (Ok v) builds = value_keeps old new shape ty current.0 current.1 v builds
   value_kept (Err e) builds = tt
 
   value_imports : (r : Result ℕ BuildError) → BuildsValue old new shape ty r → OnOk r (MayImport old.func.now.tables new.func.now.tables)
-  value_imports (Ok v) builds = tables_same (value_tables old new shape ty current v builds)
+  value_imports (Ok v) builds = tables_same (value_tables old new shape ty current.0 current.1 v builds)
   value_imports (Err e) builds = tt
 
   inst_kept : (r : Result ℕ BuildError) → Builds old new shape ty r → OnOk r (KeepsState old new)
-  inst_kept (Ok i) builds = built_keeps old new shape ty current i builds
+  inst_kept (Ok i) builds = built_keeps old new shape ty current.0 current.1 i builds
   inst_kept (Err e) builds = tt
 
   inst_imports : (r : Result ℕ BuildError) → Builds old new shape ty r → OnOk r (MayImport old.func.now.tables new.func.now.tables)
-  inst_imports (Ok i) builds = tables_same (built_tables old new shape ty current i builds)
+  inst_imports (Ok i) builds = tables_same (built_tables old new shape ty current.0 current.1 i builds)
   inst_imports (Err e) builds = tt
 
   pub value_line : BuildsValue old new shape ty answer → InLine old new answer

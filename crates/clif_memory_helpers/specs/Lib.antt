@@ -1,5 +1,4 @@
 -- What the contracts of this crate cite.
-pub mod Keeping
 pub mod Helpers
 pub mod Lines
 pub mod Steps

@@ -12,7 +12,7 @@ use Rattle.clif_builder.specs.declared.builder.FunctionBuilder.{FunctionBuilder}
 use Rattle.clif_builder.specs.Builder.{HasCurrent}
 use Rattle.clif_builder.specs.Calls.{IsCall}
 use Rattle.clif_builder.specs.Growth.{Grows}
-use Rattle.clif_memory_helpers.specs.Keeping.{KeepsState}
+use Rattle.clif_builder.specs.Keeping.{KeepsState}
 use Rattle.clif_builder.specs.Ledger.{NamesValue}
 use Rattle.clif_builder.specs.StandsFor.{StandsFor}
 

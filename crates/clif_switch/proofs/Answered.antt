@@ -7,7 +7,7 @@ use Rattle.std.proofs.lemmas.List.Elements.{All-contains, All-contains_itself}
 use Rattle.clif_types.specs.Signature.{SignatureShape}
 use Rattle.clif_types.specs.Types.{greatest_of, is_int}
 use Rattle.clif_types.specs.declared.error.BuildError.{BuildError}
-use Rattle.clif_types.specs.declared.error.BuildError.TheVariants.{Failed}
+use Rattle.clif_types.specs.declared.error.BuildError.TheVariants.{Failed, Full}
 use Rattle.clif_types.specs.declared.types.«Type».{«Type»}
 use Rattle.clif_ir.specs.Body.{value_at}
 use Rattle.clif_ranges.specs.declared.ranges.CaseRange.{CaseRange}
@@ -75,6 +75,9 @@ failed_by cases value otherwise old new e fits steps = record {
   remembers = λ x b. tt;
   types = tt;
   exceptions = tt;
+  full = λ is. steps.full (ap Err (same_error e Full is));
+  keeps = tt;
+  adds = tt;
   tables = tt;
   leaves = tt;
   left = tt;
@@ -109,10 +112,10 @@ module _ {R : Type 0} (cases : CaseMap) (value otherwise : ℕ) (b : FunctionBui
   held = (value_at b.func.now value).ty
 
   -- nothing was emitted, and the builder is as it was
-  unemitted : (error : SwitchError) → IsUnemitted cases held b b error → (◌≡◌ {A = Result (Unit {0}) SwitchError} (Err error) (Err (switch_error.Build Failed)) ↔ IsTrue b.failed)
+  unemitted : (error : SwitchError) → (◌≡◌ {A = Result (Unit {0}) SwitchError} (Err error) (Err (switch_error.Build Full)) → ⊥) → IsUnemitted cases held b b error → (◌≡◌ {A = Result (Unit {0}) SwitchError} (Err error) (Err (switch_error.Build Failed)) ↔ IsTrue b.failed)
       → ((max : ℕ) → ◌≡◌ {A = Result (Unit {0}) SwitchError} (Err error) (Err (switch_error.KeyTooWide held max)) ↔ ((b.failed ≡ false) × IsKeyTooWide cases held max))
       → Emits cases value otherwise b b (Err error)
-  unemitted error why failed wide = record {
+  unemitted error not_full why failed wide = record {
     loans = record { func = refl; ctx = refl; region = refl };
     srcloc = refl;
     failed = failed;
@@ -126,6 +129,9 @@ module _ {R : Type 0} (cases : CaseMap) (value otherwise : ℕ) (b : FunctionBui
     remembers = λ x c. tt;
     types = tt;
     exceptions = tt;
+    full = λ is. absurd (not_full is);
+    keeps = tt;
+    adds = tt;
     tables = tt;
     leaves = tt;
     left = tt;
@@ -138,14 +144,17 @@ module _ {R : Type 0} (cases : CaseMap) (value otherwise : ℕ) (b : FunctionBui
 
   -- the builder had failed before
   pub was_failed : IsTrue b.failed → Emits cases value otherwise b b (Err (switch_error.Build Failed))
-  was_failed is = unemitted (switch_error.Build Failed) is ((λ same. is), (λ failed. refl)) (λ max. ((λ same. absurd (no_key_error Failed held max same)), (λ wide. absurd (sound_not wide.0 is))))
+  was_failed is = unemitted (switch_error.Build Failed) not_full is ((λ same. is), (λ failed. refl)) (λ max. ((λ same. absurd (no_key_error Failed held max same)), (λ wide. absurd (sound_not wide.0 is))))
+    where
+      not_full : ◌≡◌ {A = Result (Unit {0}) SwitchError} (Err (switch_error.Build Failed)) (Err (switch_error.Build Full)) → ⊥
+      not_full same = cc
 
   -- the greatest key is no number of the type
   pub key_too_wide : {A : Type 0} (error : SwitchError) (t answered : «Type») (max : ℕ) → b.failed ≡ false → error ≡ switch_error.KeyTooWide t max → Refuses A cases held error → answered ≡ held
       → Emits cases value otherwise b b (Err (switch_error.KeyTooWide answered max))
   key_too_wide {A} error t answered max sound is refuses same =
       subst (λ (ty : «Type»). Emits cases value otherwise b b (Err (switch_error.KeyTooWide ty max))) (sym same)
-      (unemitted (switch_error.KeyTooWide held max) ((refl, wide_here), refl) ((λ other. absurd (not_failed_before other)), (λ failed. absurd (sound_not sound failed)))
+      (unemitted (switch_error.KeyTooWide held max) not_full ((refl, wide_here), refl) ((λ other. absurd (not_failed_before other)), (λ failed. absurd (sound_not sound failed)))
       (λ m. (
         (λ other. (sound, subst (IsKeyTooWide cases held) (same_key held max m other) wide_here)),
         (λ wide. ap (λ (k : ℕ). Err (switch_error.KeyTooWide held k)) (told_key m ((refuses.1 m).1 wide.1))),
@@ -157,15 +166,21 @@ module _ {R : Type 0} (cases : CaseMap) (value otherwise : ℕ) (b : FunctionBui
       told_key : (m : ℕ) → ◌≡◌ {A = Result A SwitchError} (Err error) (Err (switch_error.KeyTooWide held m)) → max ≡ m
       told_key m other = cc
 
+      not_full : ◌≡◌ {A = Result (Unit {0}) SwitchError} (Err (switch_error.KeyTooWide held max)) (Err (switch_error.Build Full)) → ⊥
+      not_full same = cc
+
       not_failed_before : ◌≡◌ {A = Result (Unit {0}) SwitchError} (Err (switch_error.KeyTooWide held max)) (Err (switch_error.Build Failed)) → ⊥
       not_failed_before other = cc
 
   -- a range is too long
   pub table_too_long : b.failed ≡ false → IsRefusal cases held switch_error.TableTooLong → Emits cases value otherwise b b (Err switch_error.TableTooLong)
   table_too_long sound refused =
-      unemitted switch_error.TableTooLong (refused, refl) ((λ same. absurd (other same)), (λ failed. absurd (sound_not sound failed)))
+      unemitted switch_error.TableTooLong not_full (refused, refl) ((λ same. absurd (other same)), (λ failed. absurd (sound_not sound failed)))
       (λ m. ((λ same. absurd (no_key m same)), (λ wide. absurd (none_too_wide cases held refused.0 m wide.1))))
     where
+      not_full : ◌≡◌ {A = Result (Unit {0}) SwitchError} (Err switch_error.TableTooLong) (Err (switch_error.Build Full)) → ⊥
+      not_full same = cc
+
       other : ◌≡◌ {A = Result (Unit {0}) SwitchError} (Err switch_error.TableTooLong) (Err (switch_error.Build Failed)) → ⊥
       other same = cc
 
@@ -286,6 +301,9 @@ module _ {R : Type 0} (reads : LedgerIsReadByNumber) (asks : RequestsAskForTheir
     remembers = ends.steps.remembers;
     types = ends.steps.types;
     exceptions = ends.steps.exceptions;
+    full = λ is. absurd (no_full is);
+    keeps = ends.steps.keeps;
+    adds = ends.steps.adds;
     tables = ends.tables ∙ ap (λ (n : ℕ). old.func.now.tables.jump_tables ++ replicate n None) (tables_are entries ranges fits.ranges_of nodes tests);
     leaves = ends.leaves;
     left = ends.left;
@@ -293,6 +311,9 @@ module _ {R : Type 0} (reads : LedgerIsReadByNumber) (asks : RequestsAskForTheir
     stands = λ signature calls s block stands current named. stood signature calls s block stands current named makes;
   }
     where
+      no_full : ◌≡◌ {A = Result (Unit {0}) SwitchError} (Ok tt) (Err (switch_error.Build Full)) → ⊥
+      no_full same = cc
+
       no_failure : ◌≡◌ {A = Result (Unit {0}) SwitchError} (Ok tt) (Err (switch_error.Build Failed)) → ⊥
       no_failure same = cc
 

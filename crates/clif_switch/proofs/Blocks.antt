@@ -1,20 +1,26 @@
 -- Blocks that are made and entered, and branches to them.
 use Rattle.std.proofs.Common.{◌≡◌, ◌<◌, ◌≤◌, inl, inr, ℕ, ℤ, true, List, [], ◌∷◌, ◌++◌, length, refl, sym, ◌∙◌, ap, subst, arith, append_assoc, append-nil, Some, None}
-use Rattle.std.specs.Prelude.{◌≢◌, Result, Ok, Err, is_some, replicate, slice_get, option_and_then}
+use Rattle.std.proofs.lemmas.Bool.{ne_eqb}
+use Rattle.std.specs.Prelude.{◌≢◌, ◌==◌, Result, Ok, Err, is_some, replicate, slice_get, option_and_then}
 use Rattle.std.specs.Result.{IsErrAnd}
 use Rattle.clif_types.specs.Signature.{SignatureShape}
 use Rattle.clif_types.specs.declared.error.BuildError.{BuildError}
 use Rattle.clif_types.specs.declared.types.«Type».{«Type»}
 use Rattle.clif_instructions.specs.Instruction.{is_terminator}
 use Rattle.clif_instructions.specs.declared.instructions.InstructionData.{InstructionData}
-use Rattle.clif_records.specs.Tables.{is_yes}
-use Rattle.clif_ssa.specs.Ssa.{SameBlocks}
+use Rattle.clif_ir.specs.Body.{Body}
+use Rattle.clif_ir.specs.Changes.{with_block}
+use Rattle.clif_tables.specs.Callees.{count_of_results}
+use Rattle.clif_records.specs.Tables.{Yes, is_yes, pending_of}
+use Rattle.clif_ssa.specs.Ssa.{SameBlocks, sealed_of}
 use Rattle.clif_meaning.specs.Ledger.{ABlock}
 use Rattle.clif_meaning.specs.Name.{answer_of}
 use Rattle.clif_meaning.specs.Request.{AnsweredCall, CreateBlock, Script}
 use Rattle.clif_builder.specs.declared.builder.FunctionBuilder.{FunctionBuilder}
 use Rattle.clif_builder.specs.declared.context.BlockStatus.TheVariants.{Empty, Filled}
-use Rattle.clif_builder.specs.Builder.{HasCurrent}
+use Rattle.clif_builder.specs.Builder.{HasCurrent, with_position}
+use Rattle.clif_builder.specs.Construction.{SealsAlone}
+use Rattle.clif_builder.specs.Context.{FillsNone, status_of}
 use Rattle.clif_builder.specs.Built.{Builds, BuildsValue}
 use Rattle.clif_builder.specs.Calls.{IsCall, answered}
 use Rattle.clif_builder.specs.Growth.{Grows, RemembersIn}
@@ -22,14 +28,17 @@ use Rattle.clif_builder.specs.Ledger.{NamesBlock, ledger_of}
 use Rattle.clif_builder.specs.LedgerLaws.{LedgerIsReadByNumber}
 use Rattle.clif_builder.specs.Order.{IsUntouched}
 use Rattle.clif_builder.specs.StandsFor.{StandsFor}
+use Rattle.clif_builder.proofs.Keeping.{keeps_insts}
 use Rattle.clif_builder.proofs.Lasting.{ledger-behind}
+use Rattle.clif_builder.proofs.LedgerLeads.{blocks-along}
+use Rattle.clif_builder.proofs.LedgerLists.{if-no}
 use Rattle.clif_constant_operands.specs.Chains.{BuildsWithConstant}
 use Rattle.clif_constant_calls.specs.Stands.{BuildsLike}
 use Rattle.clif_switch_calls.specs.SwitchCalls.{Switched}
-use Rattle.clif_switch.specs.Emission.{EndsBlock, IsOpenFor, LeavesBlocks, NamesTarget, StandsAt, StandsOn, StaysHere, Steps, next_place}
+use Rattle.clif_switch.specs.Emission.{EndsBlock, IsEntered, IsOpenFor, LeavesBlocks, NamesTarget, StandsAt, StandsOn, StaysHere, Steps, next_place}
 use Rattle.clif_switch.proofs.Names.{place_is, stands_behind}
 use Rattle.clif_switch.proofs.Numbers.{constant_went}
-use Rattle.clif_switch.proofs.Steps.{builds_steps, call_steps, leaves_on, may_lead_on, steps_err, steps_ok, steps_on}
+use Rattle.clif_switch.proofs.Steps.{adds_none, built_steps, call_steps, leaves_on, may_lead_on, not_full, refused_steps, steps_ok, steps_on}
 use Rattle.clif_switch.proofs.Values.{Went, done, none_more, value_went, went_then}
 
 -- NEW BLOCKS --------------------------------------------------------------------------------------------------------------
@@ -68,13 +77,16 @@ module _ {R : Type 0} (reads : LedgerIsReadByNumber) {signature : SignatureShape
       }
 
 -- a block was created
-pub created_went : {R : Type 0} (old new : FunctionBuilder R) (block : ℕ) → IsCall old new (Ok block) → new.ctx.now.parts.variables ≡ old.ctx.now.parts.variables → Grows old.func.now new.func.now → ((x b : ℕ) → RemembersIn x b old new) → SameBlocks old.ctx.now.parts.ssa new.ctx.now.parts.ssa
+pub created_went : {R : Type 0} (old new : FunctionBuilder R) (block : ℕ) → IsCall old new (Ok block) → new.ctx.now.parts.variables ≡ old.ctx.now.parts.variables
+    → new.func.now ≡ with_block old.func.now → new.ctx.now.parts.ssa.tracking ≡ old.ctx.now.parts.ssa.tracking → Grows old.func.now new.func.now → ((x b : ℕ) → RemembersIn x b old new) → SameBlocks old.ctx.now.parts.ssa new.ctx.now.parts.ssa
     → HasCurrent new → Went old new
-created_went old new block call variables grows remembers sealed current = record {
-  steps = steps_ok old new block (tt {0}) (call_steps old new (Ok block) call variables grows remembers);
+created_went old new block call variables function tracking grows remembers sealed current = record {
+  steps = steps_ok old new block (tt {0}) (call_steps old new (Ok block) call variables grows remembers (keeps_insts old new (ap (λ (f : Body). f.insts) function) tracking remembers)
+      (adds_none old.func.now.tables new.func.now.tables (ap (λ (f : Body). f.tables) function)) (λ is. not_full block is));
   position = call.position;
   leaves = record {
     seals = λ b inside. ap is_yes (sealed b);
+    waits = λ b inside. ap pending_of (sealed b);
     fills = λ b inside other filled. call.fills b filled;
     position = λ b inside at. sym call.position ∙ at;
   };
@@ -89,6 +101,7 @@ pub created_open : {R : Type 0} (b : FunctionBuilder R) (block : ℕ) → block 
 created_open b block exists untouched = record {
   leads = record { exists = exists; unsealed = untouched.unsealed };
   unfilled = λ filled. no_status (sym untouched.pristine ∙ filled);
+  none_waits = untouched.none_waits;
 }
 
 pub some_same : (a b : ℕ) → Some a ≡ Some b → a ≡ b
@@ -101,18 +114,36 @@ elsewhere b block (current, here, exists, unfilled) later is = let same = some_s
 -- a block stays open that isn't the current one
 pub open_on : {R : Type 0} (old new : FunctionBuilder R) (block : ℕ) → length old.func.now.blocks ≤ length new.func.now.blocks → LeavesBlocks old new → old.position ≢ Some block → IsOpenFor old block → IsOpenFor new block
 open_on old new block more leaves other was = record {
+  none_waits = leaves.waits block was.leads.exists ∙ was.none_waits;
   leads = may_lead_on old new block more leaves was.leads;
   unfilled = λ filled. was.unfilled (leaves.fills block was.leads.exists other filled);
 }
 
+-- a block in which nothing waits was sealed, and became the current one
+pub is_entered : {R : Type 0} (old mid new : FunctionBuilder R) (block : ℕ) → FillsNone old.ctx.now.parts mid.ctx.now.parts
+    → SealsAlone old.func.now old.ctx.now.parts.ssa mid.func.now mid.ctx.now.parts.ssa block → new ≡ with_position mid block → HasCurrent new → IsEntered block old new
+is_entered old mid new block fills alone is current = record {
+  seals = λ other apart. ap is_yes (stays other apart);
+  waits = λ other apart. ap pending_of (stays other apart);
+  fills = λ b filled. fills b (ap (λ (builder : FunctionBuilder _). status_of builder.ctx.now.parts b) (sym is) ∙ filled);
+  position = ap (λ (b : FunctionBuilder _). b.position) is;
+  tables = ap (λ (b : FunctionBuilder _). b.func.now.tables.jump_tables) is ∙ ap (λ (f : Body). f.tables.jump_tables) alone.function;
+  current = current;
+}
+  where
+    stays : (other : ℕ) → other ≢ block → sealed_of new.ctx.now.parts.ssa other ≡ sealed_of old.ctx.now.parts.ssa other
+    stays other apart =
+        ap (λ (b : FunctionBuilder _). sealed_of b.ctx.now.parts.ssa other) is ∙ alone.sealed other ∙ if-no (other == block) Yes (sealed_of old.ctx.now.parts.ssa other) (ne_eqb other block apart)
+
 -- ENDS OF BLOCKS ----------------------------------------------------------------------------------------------------------
 
 -- a terminator was built
-pub ends_by : {R : Type 0} (old new : FunctionBuilder R) (shape : InstructionData) (ty : «Type») (inst : ℕ) → is_terminator shape ≡ true → Builds old new shape ty (Ok inst) → EndsBlock {A = Unit {0}} 0 old new done
-ends_by old new shape ty inst ends builds = record {
-  steps = steps_ok old new inst (tt {0}) (builds_steps old new shape ty (Ok inst) builds);
+pub ends_by : {R : Type 0} (old new : FunctionBuilder R) (shape : InstructionData) (ty : «Type») (inst : ℕ) → is_terminator shape ≡ true → HasCurrent old → Builds old new shape ty (Ok inst) → EndsBlock {A = Unit {0}} 0 old new done
+ends_by old new shape ty inst ends current builds = record {
+  steps = steps_ok old new inst (tt {0}) (built_steps old new shape ty inst current builds);
   leaves = record {
     seals = λ b inside. builds.seals b;
+    waits = λ b inside. ap pending_of (blocks-along builds.declares.told old.ctx.now.parts.ssa new.ctx.now.parts.ssa inst builds.declares.along b);
     fills = λ b inside other filled. builds.fills b other filled;
     position = λ b inside at. sym builds.position ∙ at;
   };
@@ -125,12 +156,19 @@ ends_by old new shape ty inst ends builds = record {
 pub ends_failed : {A : Type 0} {R : Type 0} (count : ℕ) (old new : FunctionBuilder R) (e : BuildError) → Steps {A = A} old new (Err e) → EndsBlock {A = A} count old new (Err e)
 ends_failed count old new e steps = record { steps = steps; leaves = tt; tables = tt; left = tt; free = tt }
 
-pub ends_error : {A : Type 0} {R : Type 0} (count : ℕ) (old mid new : FunctionBuilder R) (r : Result A BuildError) (e : BuildError) (shape : InstructionData) (ty : «Type») → Went old mid → Builds mid new shape ty (Err e) → IsErrAnd r (λ y. y ≡ e)
+pub ends_error : {A : Type 0} {R : Type 0} (count : ℕ) (old mid new : FunctionBuilder R) (r : Result A BuildError) (e : BuildError) (shape : InstructionData) (ty : «Type») → count_of_results mid.func.now.tables shape ≤ 1 → Went old mid → Builds mid new shape ty (Err e) → IsErrAnd r (λ y. y ≡ e)
     → EndsBlock {A = A} count old new r
-ends_error {A} count old mid new (Ok a) e shape ty went builds is = absurd is
-ends_error {A} count old mid new (Err y) e shape ty went builds is =
+ends_error {A} count old mid new (Ok a) e shape ty few went builds is = absurd is
+ends_error {A} count old mid new (Err y) e shape ty few went builds is =
     subst (λ (error : BuildError). EndsBlock {A = A} count old new (Err error)) (sym is)
-    (ends_failed count old new e (steps_on old mid new (tt {0}) (Err e) went.steps (steps_err mid new e (builds_steps mid new shape ty (Err e) builds))))
+    (ends_failed count old new e (steps_on old mid new (tt {0}) (Err e) went.steps (refused_steps mid new shape ty e few builds)))
+
+-- the first instruction was refused
+pub ends_refused : {A : Type 0} {R : Type 0} (count : ℕ) (old new : FunctionBuilder R) (r : Result A BuildError) (e : BuildError) (shape : InstructionData) (ty : «Type») → count_of_results old.func.now.tables shape ≤ 1
+    → Builds old new shape ty (Err e) → IsErrAnd r (λ y. y ≡ e) → EndsBlock {A = A} count old new r
+ends_refused {A} count old new (Ok a) e shape ty few builds is = absurd is
+ends_refused {A} count old new (Err y) e shape ty few builds is =
+    subst (λ (error : BuildError). EndsBlock {A = A} count old new (Err error)) (sym is) (ends_failed count old new e (refused_steps old new shape ty e few builds))
 
 -- behind a line, and with another answer
 pub ends_then : {A : Type 0} {R : Type 0} (count : ℕ) (old mid new : FunctionBuilder R) (answer : A) → Went old mid → EndsBlock {A = Unit {0}} count mid new done → EndsBlock {A = A} count old new (Ok answer)
@@ -171,5 +209,6 @@ pub stays_failed : {A : Type 0} {R : Type 0} (old new : FunctionBuilder R) (e : 
 stays_failed old new e steps = record { steps = steps; leaves = tt; tables = tt; position = tt; current = tt }
 
 -- memory was refused behind a line
-pub refused_then : {A : Type 0} {R : Type 0} (old mid new : FunctionBuilder R) (e : BuildError) (shape : InstructionData) (ty : «Type») → Went old mid → Builds mid new shape ty (Err e) → Steps {A = A} old new (Err e)
-refused_then old mid new e shape ty went builds = steps_on old mid new (tt {0}) (Err e) went.steps (steps_err mid new e (builds_steps mid new shape ty (Err e) builds))
+pub refused_then : {A : Type 0} {R : Type 0} (old mid new : FunctionBuilder R) (e : BuildError) (shape : InstructionData) (ty : «Type») → count_of_results mid.func.now.tables shape ≤ 1 → Went old mid → Builds mid new shape ty (Err e)
+    → Steps {A = A} old new (Err e)
+refused_then old mid new e shape ty few went builds = steps_on old mid new (tt {0}) (Err e) went.steps (refused_steps mid new shape ty e few builds)

@@ -132,6 +132,7 @@ module _ {R : Type 0} (switched : SwitchedValue) (nodes rest : List Node) (node 
     pub leaves_entered : LeavesBlocks old mid
     leaves_entered = record {
       seals = λ block inside. entered.seals block (λ same. let later = behind_next in omega (arith, later, same, inside)) ∙ state.ends.leaves.seals block inside;
+      waits = λ block inside. entered.waits block (λ same. let later = behind_next in omega (arith, later, same, inside)) ∙ state.ends.leaves.waits block inside;
       fills = λ block inside other filled. state.ends.leaves.fills block inside other (entered.fills block filled);
       position = λ block inside here. let same = some_same block (block_at blocks node.number) (sym here ∙ entered.position) in let later = behind_next in absurd (omega (arith, later, same, inside));
     }

@@ -150,6 +150,7 @@ module _ {R : Type 0} {signature : SignatureShape} {calls : List AnsweredCall} {
 pub leaves_entered : {R : Type 0} (old mid new : FunctionBuilder R) (block : ℕ) → LeavesBlocks old mid → IsEntered block mid new → length old.func.now.blocks ≤ block → LeavesBlocks old new
 leaves_entered old mid new block leaves entered later = record {
   seals = λ b inside. entered.seals b (λ is. omega (arith, is, inside, later)) ∙ leaves.seals b inside;
+  waits = λ b inside. entered.waits b (λ is. omega (arith, is, inside, later)) ∙ leaves.waits b inside;
   fills = λ b inside other filled. leaves.fills b inside other (entered.fills b filled);
   position = λ b inside at. let same = some_same block b (sym entered.position ∙ at) in absurd (omega (arith, same, inside, later));
 }

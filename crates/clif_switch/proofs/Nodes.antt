@@ -66,6 +66,7 @@ waits_entered base bound number old mid blocks waiting more entered waits = reco
           unsealed = entered.seals (block_at blocks n) (apart blocks n number waits.rising less was.some waits.ready.0.inside) ∙ was.is_open.leads.unsealed;
         };
         unfilled = λ filled. was.is_open.unfilled (entered.fills (block_at blocks n) filled);
+        none_waits = entered.waits (block_at blocks n) (apart blocks n number waits.rising less was.some waits.ready.0.inside) ∙ was.is_open.none_waits;
       };
     }
 

@@ -1,8 +1,9 @@
 -- A table serves the branch of its range.
 use Rattle.std.proofs.Common.{◌≡◌, ◌≤◌, inl, inr, ℕ, zero, suc, List, [], ◌∷◌, ◌++◌, length, map, refl, sym, ◌∙◌, ap, subst, arith, append-nil, Option, Some, None}
 use Rattle.std.proofs.Math.Seq.{set-append_seam}
-use Rattle.std.specs.Prelude.{All, Ok, Err, slice_get, slice_set}
+use Rattle.std.specs.Prelude.{All, Result, Ok, Err, slice_get, slice_set}
 use Rattle.clif_types.specs.declared.error.BuildError.{BuildError}
+use Rattle.clif_types.specs.declared.error.BuildError.TheVariants.{Failed, Full}
 use Rattle.clif_types.specs.declared.types.«Type».TheVariants as type
 use Rattle.clif_instructions.specs.declared.block_call.BlockCall.{BlockCall}
 use Rattle.clif_inst_builder.specs.Shapes as shapes
@@ -10,7 +11,7 @@ use Rattle.clif_inst_builder.specs.Shapes.{TakesThenBuilds}
 use Rattle.clif_ir.specs.Body.{Body}
 use Rattle.clif_tables.specs.Lists.{unserved, with_table_served}
 use Rattle.clif_builder.specs.declared.builder.FunctionBuilder.{FunctionBuilder}
-use Rattle.clif_builder.specs.Builder.{CanLead}
+use Rattle.clif_builder.specs.Builder.{CanLead, HasCurrent}
 use Rattle.clif_builder.specs.Built.{Builds}
 use Rattle.clif_builder.specs.declared.context.BlockStatus.TheVariants.{Filled}
 use Rattle.clif_builder.specs.Context.{ContextState, status_of}
@@ -18,7 +19,7 @@ use Rattle.clif_builder.specs.Entries.{MayServe, TakesJumpTable}
 use Rattle.clif_switch.specs.Emission.{EndsBlock, LeavesBlocks, MakesTable, MayLead, ServesMore, Steps, bare_to}
 use Rattle.clif_switch.proofs.Blocks.{ends_by, slice_get-last}
 use Rattle.clif_switch.proofs.Edges.{set_steps}
-use Rattle.clif_switch.proofs.Steps.{leaves_all, leaves_on, may_lead_on, steps_ok, steps_on}
+use Rattle.clif_switch.proofs.Steps.{leaves_all, leaves_on, may_lead_on, not_full, refused_steps, steps_err, steps_ok, steps_on}
 use Rattle.clif_switch.proofs.Values.{done}
 
 -- bare edges may be made to blocks to which branches may lead
@@ -52,13 +53,13 @@ table_leaves edges old new table makes =
     leaves_all old new (ap (λ (c : ContextState). c.ssa) makes.context) makes.position (λ b filled. subst (λ (c : ContextState). status_of c b ≡ Filled) makes.context filled)
 
 -- the branch by it ends the block
-pub table_ends : {R : Type 0} (old b between new : FunctionBuilder R) (table inst v : ℕ) (edges held : List BlockCall) → Steps {A = Unit {0}} old b done → LeavesBlocks old b
+pub table_ends : {R : Type 0} (old b between new : FunctionBuilder R) (table inst v : ℕ) (edges held : List BlockCall) → HasCurrent b → Steps {A = Unit {0}} old b done → LeavesBlocks old b
     → b.func.now.tables.jump_tables ≡ old.func.now.tables.jump_tables ++ Some edges ∷ [] → table ≡ length old.func.now.tables.jump_tables → TakesJumpTable b between table (Ok held)
     → Builds between new (shapes.branch_table v held) type.Invalid (Ok inst) → EndsBlock {A = Unit {0}} 1 old new done
-table_ends old b between new table inst v edges held steps leaves tables is takes builds =
-    let taken : Steps {A = Unit {0}} b between done = steps_ok b between held (tt {0}) (set_steps b between (with_table_served b.func.now.tables table) (Ok held) refl takes.sets) in
+table_ends old b between new table inst v edges held current steps leaves tables is takes builds =
+    let taken : Steps {A = Unit {0}} b between done = steps_ok b between held (tt {0}) (set_steps b between (with_table_served b.func.now.tables table) (Ok held) refl (λ is. not_full held is) takes.sets) in
     let left : LeavesBlocks b between = leaves_all b between (ap (λ (c : ContextState). c.ssa) takes.sets.context) takes.sets.call.position (λ block filled. subst (λ (c : ContextState). status_of c block ≡ Filled) takes.sets.context filled) in
-    let ends = ends_by between new (shapes.branch_table v held) type.Invalid inst refl builds in
+    let ends = ends_by between new (shapes.branch_table v held) type.Invalid inst refl (takes.sets.current current) builds in
     record {
       steps = steps_on old between new (tt {0}) done (steps_on old b between (tt {0}) done steps taken) ends.steps;
       leaves = leaves_on old between new (steps_on old b between (tt {0}) done steps taken).grows.2 (leaves_on old b between steps.grows.2 leaves left) ends.leaves;
@@ -87,6 +88,22 @@ no_ok a e same = cc
 pub served : {R : Type 0} (old new : FunctionBuilder R) (table v inst : ℕ) → TakesThenBuilds TakesJumpTable Builds old new (shapes.branch_table v) table type.Invalid (Ok inst) → Served old new table v inst
 served old new table v inst (inl (between, held, takes, builds)) = record { between = between; held = held; takes = takes; builds = builds }
 served old new table v inst (inr (e, takes, is)) = no_ok inst e is
+
+-- the branch failed
+pub served_fails : {R : Type 0} (old new : FunctionBuilder R) (table v : ℕ) (e : BuildError) → TakesThenBuilds TakesJumpTable Builds old new (shapes.branch_table v) table type.Invalid (Err e)
+    → Steps {A = Unit {0}} old new (Err e)
+served_fails old new table v e (inl (between, held, takes, builds)) =
+    let taken : Steps {A = Unit {0}} old between done = steps_ok old between held (tt {0}) (set_steps old between (with_table_served old.func.now.tables table) (Ok held) refl (λ is. not_full held is) takes.sets) in
+    steps_on old between new (tt {0}) (Err e) taken (refused_steps between new (shapes.branch_table v held) type.Invalid e (omega arith) builds)
+served_fails old new table v e (inr (y, takes, is)) =
+    subst (λ (error : BuildError). Steps {A = Unit {0}} old new (Err error)) (sym (same_error e y is))
+    (steps_err old new y (set_steps old new (with_table_served old.func.now.tables table) (Err y) refl (λ full. absurd (apart y takes.only_failed full)) takes.sets))
+  where
+    same_error : (a b : BuildError) → ◌≡◌ {A = Result ℕ BuildError} (Err a) (Err b) → a ≡ b
+    same_error a b same = cc
+
+    apart : (a : BuildError) → ◌≡◌ {A = Result (List BlockCall) BuildError} (Err a) (Err Failed) → ◌≡◌ {A = Result (List BlockCall) BuildError} (Err a) (Err Full) → ⊥
+    apart a one two = cc
 
 same_some : {X : Type 0} (x y : X) → Some x ≡ Some y → x ≡ y
 same_some x y same = cc

@@ -1,21 +1,27 @@
 -- Steps one behind the other.
-use Rattle.std.proofs.Common.{◌≡◌, ◌≤◌, ℕ, true, false, refl, sym, ◌∙◌, ap, subst, arith}
-use Rattle.std.specs.Prelude.{IsTrue, length, Result, Ok, Err, OnOk}
+use Rattle.std.proofs.Common.{◌≡◌, ◌≤◌, inl, inr, ℕ, true, false, List, [], ◌∷◌, refl, sym, ◌∙◌, ap, subst, arith}
+use Rattle.std.specs.Prelude.{Contains, IsTrue, length, Result, Ok, Err, OnOk}
 use Rattle.std.specs.Result.{IsErrAnd}
 use Rattle.clif_types.specs.declared.error.BuildError.{BuildError}
-use Rattle.clif_types.specs.declared.error.BuildError.TheVariants.{Failed}
+use Rattle.clif_types.specs.declared.error.BuildError.TheVariants.{Failed, Full}
 use Rattle.clif_types.specs.declared.types.«Type».{«Type»}
 use Rattle.clif_instructions.specs.declared.instructions.InstructionData.{InstructionData}
 use Rattle.clif_ir.specs.Body.{Body}
-use Rattle.clif_records.specs.Tables.{is_yes}
+use Rattle.clif_records.specs.Tables.{is_yes, pending_of}
+use Rattle.clif_records.specs.declared.tables.Pending.{Pending}
+use Rattle.clif_tables.specs.Callees.{count_of_results}
+use Rattle.clif_tables.specs.Lists.{TableLists}
+use Rattle.clif_ssa.specs.Pools.{SealingIsFull, types_of}
 use Rattle.clif_ssa.specs.Ssa.{SsaState, sealed_of}
 use Rattle.clif_builder.specs.declared.builder.FunctionBuilder.{FunctionBuilder}
-use Rattle.clif_builder.specs.Builder.{with_position}
-use Rattle.clif_builder.specs.Built.{Builds, BuildsValue}
+use Rattle.clif_builder.specs.Builder.{HasCurrent, with_position}
+use Rattle.clif_builder.specs.Built.{Builds, BuildsValue, HasFullTable}
 use Rattle.clif_builder.specs.Calls.{IsCall}
 use Rattle.clif_builder.specs.Context.{FillsNone}
 use Rattle.clif_builder.specs.Growth.{Grows, GrowsBesideTables, RemembersIn, TypesStay}
-use Rattle.clif_switch.specs.Emission.{LeavesBlocks, MayLead, Steps}
+use Rattle.clif_builder.specs.Keeping.{KeepsState}
+use Rattle.clif_builder.proofs.Keeping.{built_keeps, built_tables, keeps_insts, keeps_none, keeps_on, value_keeps, value_tables}
+use Rattle.clif_switch.specs.Emission.{MayAddJumpTables, LeavesBlocks, MayLead, Steps, SwitchIsFull}
 
 -- GROWTH ------------------------------------------------------------------------------------------------------------------
 
@@ -35,10 +41,32 @@ remembers_on x b old mid new first next = record {
   alike = λ u v same. next.alike u v (first.alike u v same);
 }
 
+-- TABLES ------------------------------------------------------------------------------------------------------------------
+
+adds_on : (t u v : TableLists) → MayAddJumpTables t u → MayAddJumpTables u v → MayAddJumpTables t v
+adds_on t u v first next = next ∙ ap (λ (w : TableLists). record w { jump_tables = v.jump_tables }) first
+
+pub adds_none : (t u : TableLists) → u ≡ t → MayAddJumpTables t u
+adds_none t u same = subst (λ (w : TableLists). u ≡ record w { jump_tables = u.jump_tables }) same refl
+
+-- a full table is one that a switch needs
+full_of : {R : Type 0} (old new : FunctionBuilder R) → HasFullTable old → (new.func.now.insts ≡ old.func.now.insts) × (new.func.now.values ≡ old.func.now.values) → SwitchIsFull new.func.now
+full_of old new (inl full) stays = inl (inr (ap length stays.0 ∙ full))
+full_of old new (inr full) stays = inl (inl (ap length stays.1 ∙ full))
+
+-- nothing waits that needs another one
+pub sealing_full : (f g : Body) (waiting : List Pending) → waiting ≡ [] → SealingIsFull (Contains (types_of f waiting)) g → SwitchIsFull g
+sealing_full f g [] none (inl full) = inl full
+sealing_full f g [] none (inr (ty, here, lacks)) = absurd (omega (arith, here.1))
+sealing_full f g (p ∷ waiting) none full = let no_way : ⊥ = cc in absurd no_way
+
 -- STEPS -------------------------------------------------------------------------------------------------------------------
 
 not_failed : {A : Type 0} (a : A) → Ok a ≡ Err Failed → ⊥
 not_failed a same = cc
+
+pub not_full : {A : Type 0} {P : Type 0} (a : A) → Ok a ≡ Err Full → P
+not_full a same = cc
 
 -- a builder behind a step that succeeded hasn't failed, nor had the one before it
 module _ {A B : Type 0} {R : Type 0} (old mid new : FunctionBuilder R) (a : A) (answer : Result B BuildError) (first : Steps old mid (Ok a)) (next : Steps mid new answer) where
@@ -73,6 +101,10 @@ module _ {A B : Type 0} {R : Type 0} (old mid new : FunctionBuilder R) (a : A) (
         (types_on old.func.now mid.func.now new.func.now first.grows.0) first.types next.types;
     exceptions = both (mid.func.now.tables.exception_tables ≡ old.func.now.tables.exception_tables) (new.func.now.tables.exception_tables ≡ mid.func.now.tables.exception_tables)
         (new.func.now.tables.exception_tables ≡ old.func.now.tables.exception_tables) answer (λ p q. q ∙ p) first.exceptions next.exceptions;
+    keeps = both (KeepsState old mid) (KeepsState mid new) (KeepsState old new) answer (keeps_on old mid new first.grows.1 first.srcloc) first.keeps next.keeps;
+    adds = both (MayAddJumpTables old.func.now.tables mid.func.now.tables) (MayAddJumpTables mid.func.now.tables new.func.now.tables) (MayAddJumpTables old.func.now.tables new.func.now.tables) answer
+        (adds_on old.func.now.tables mid.func.now.tables new.func.now.tables) first.adds next.adds;
+    full = next.full;
   }
 
 -- another answer of the same kind
@@ -89,16 +121,19 @@ steps_ok old new a b steps = record {
   remembers = steps.remembers;
   types = steps.types;
   exceptions = steps.exceptions;
+  keeps = steps.keeps;
+  adds = steps.adds;
+  full = λ is. not_full b is;
 }
 
-err_is : {A : Type 0} (e : BuildError) (r : Result A BuildError) → r ≡ Err e → r ≡ Err Failed → e ≡ Failed
-err_is e r one two = let same = sym one ∙ two in cc
+err_is : {A : Type 0} (e y : BuildError) (r : Result A BuildError) → r ≡ Err e → r ≡ Err y → e ≡ y
+err_is e y r one two = let same = sym one ∙ two in cc
 
 pub steps_err : {A B : Type 0} {R : Type 0} (old new : FunctionBuilder R) (e : BuildError) → Steps {A = A} old new (Err e) → Steps {A = B} old new (Err e)
 steps_err old new e steps = record {
   loans = steps.loans;
   srcloc = steps.srcloc;
-  failed = (λ is. steps.failed.0 (ap Err (err_is e _ refl is)), λ is. ap Err (err_is e _ refl (steps.failed.1 is)));
+  failed = (λ is. steps.failed.0 (ap Err (err_is e Failed _ refl is)), λ is. ap Err (err_is e Failed _ refl (steps.failed.1 is)));
   unchanged = steps.unchanged;
   fails = steps.fails;
   looks_once = steps.looks_once;
@@ -107,6 +142,9 @@ steps_err old new e steps = record {
   remembers = λ x b. tt;
   types = tt;
   exceptions = tt;
+  keeps = tt;
+  adds = tt;
+  full = λ is. steps.full (ap Err (err_is e Full _ refl is));
 }
 
 -- nothing was called
@@ -123,6 +161,9 @@ steps_none b a sound = record {
   remembers = λ x c. record { recorded = λ v is. is; alike = λ u v same. same };
   types = λ v inside. refl;
   exceptions = refl;
+  keeps = keeps_none b;
+  adds = refl;
+  full = λ is. not_full a is;
 }
 
 -- a step failed, and so did what was to be made by it
@@ -144,6 +185,9 @@ positioned b block sound = record {
   remembers = λ x c. record { recorded = λ v is. is; alike = λ u v same. same };
   types = λ v inside. refl;
   exceptions = refl;
+  keeps = keeps_insts b (with_position b block) refl refl (λ x c. record { recorded = λ v is. is; alike = λ u v same. same });
+  adds = refl;
+  full = λ is. not_full (tt {0}) is;
 }
 
 pub entered_steps : {R : Type 0} (old mid new : FunctionBuilder R) (u : Unit {0}) (block : ℕ) → Steps {A = Unit {0}} old mid (Ok u) → new ≡ with_position mid block → Steps {A = Unit {0}} old new (Ok tt)
@@ -157,8 +201,9 @@ over P Q (Ok a) make p = make p
 over P Q (Err e) make p = tt
 
 pub call_steps : {A : Type 0} {R : Type 0} (old new : FunctionBuilder R) (answer : Result A BuildError) → IsCall old new answer → new.ctx.now.parts.variables ≡ old.ctx.now.parts.variables
-    → OnOk answer (Grows old.func.now new.func.now) → ((x b : ℕ) → OnOk answer (RemembersIn x b old new)) → Steps old new answer
-call_steps old new answer call variables grows remembers = record {
+    → OnOk answer (Grows old.func.now new.func.now) → ((x b : ℕ) → OnOk answer (RemembersIn x b old new))
+    → OnOk answer (KeepsState old new) → OnOk answer (MayAddJumpTables old.func.now.tables new.func.now.tables) → (answer ≡ Err Full → SwitchIsFull new.func.now) → Steps old new answer
+call_steps old new answer call variables grows remembers keeps adds full = record {
   loans = call.loans;
   srcloc = call.srcloc;
   failed = call.failed;
@@ -170,10 +215,14 @@ call_steps old new answer call variables grows remembers = record {
   remembers = remembers;
   types = call.types;
   exceptions = over (Grows old.func.now new.func.now) (new.func.now.tables.exception_tables ≡ old.func.now.tables.exception_tables) answer (λ g. g.8) grows;
+  keeps = keeps;
+  adds = adds;
+  full = full;
 }
 
-pub builds_steps : {R : Type 0} (old new : FunctionBuilder R) (shape : InstructionData) (ty : «Type») (answer : Result ℕ BuildError) → Builds old new shape ty answer → Steps old new answer
-builds_steps old new shape ty answer builds = record {
+builds_steps : {R : Type 0} (old new : FunctionBuilder R) (shape : InstructionData) (ty : «Type») (answer : Result ℕ BuildError) → Builds old new shape ty answer
+    → OnOk answer (KeepsState old new) → OnOk answer (MayAddJumpTables old.func.now.tables new.func.now.tables) → (answer ≡ Err Full → SwitchIsFull new.func.now) → Steps old new answer
+builds_steps old new shape ty answer builds keeps adds full = record {
   loans = builds.loans;
   srcloc = builds.srcloc;
   failed = builds.failed;
@@ -185,7 +234,22 @@ builds_steps old new shape ty answer builds = record {
   remembers = builds.remembers;
   types = builds.types;
   exceptions = over (Grows old.func.now new.func.now) (new.func.now.tables.exception_tables ≡ old.func.now.tables.exception_tables) answer (λ g. g.8) builds.grows;
+  keeps = keeps;
+  adds = adds;
+  full = full;
 }
+
+-- an instruction was built
+pub built_steps : {R : Type 0} (old new : FunctionBuilder R) (shape : InstructionData) (ty : «Type») (inst : ℕ) → HasCurrent old → Builds old new shape ty (Ok inst) → Steps old new (Ok inst)
+built_steps old new shape ty inst current builds =
+    builds_steps old new shape ty (Ok inst) builds (built_keeps old new shape ty current.0 current.1 inst builds)
+    (adds_none old.func.now.tables new.func.now.tables (built_tables old new shape ty current.0 current.1 inst builds)) (λ is. not_full inst is)
+
+-- one that has at most one result was refused
+pub refused_steps : {A : Type 0} {R : Type 0} (old new : FunctionBuilder R) (shape : InstructionData) (ty : «Type») (e : BuildError) → count_of_results old.func.now.tables shape ≤ 1 → Builds old new shape ty (Err e)
+    → Steps {A = A} old new (Err e)
+refused_steps old new shape ty e few builds =
+    steps_err old new e (builds_steps old new shape ty (Err e) builds tt tt (λ is. full_of old new (builds.full_table few is) (builds.full_stays is)))
 
 pub value_steps : {R : Type 0} (old new : FunctionBuilder R) (shape : InstructionData) (ty : «Type») (answer : Result ℕ BuildError) → BuildsValue old new shape ty answer → Steps old new answer
 value_steps old new shape ty answer builds = record {
@@ -200,7 +264,18 @@ value_steps old new shape ty answer builds = record {
   remembers = builds.remembers;
   types = builds.types;
   exceptions = over (Grows old.func.now new.func.now) (new.func.now.tables.exception_tables ≡ old.func.now.tables.exception_tables) answer (λ g. g.8) builds.grows;
+  keeps = kept answer builds;
+  adds = added answer builds;
+  full = λ is. full_of old new (builds.full is) (builds.full_stays is);
 }
+  where
+    kept : (r : Result ℕ BuildError) → BuildsValue old new shape ty r → OnOk r (KeepsState old new)
+    kept (Ok v) built = value_keeps old new shape ty built.current.0 (sym built.position ∙ built.current.1) v built
+    kept (Err e) built = tt
+
+    added : (r : Result ℕ BuildError) → BuildsValue old new shape ty r → OnOk r (MayAddJumpTables old.func.now.tables new.func.now.tables)
+    added (Ok v) built = adds_none old.func.now.tables new.func.now.tables (value_tables old new shape ty built.current.0 (sym built.position ∙ built.current.1) v built)
+    added (Err e) built = tt
 
 -- BLOCKS ------------------------------------------------------------------------------------------------------------------
 
@@ -208,6 +283,7 @@ value_steps old new shape ty answer builds = record {
 pub leaves_all : {R : Type 0} (old new : FunctionBuilder R) → new.ctx.now.parts.ssa ≡ old.ctx.now.parts.ssa → new.position ≡ old.position → FillsNone old.ctx.now.parts new.ctx.now.parts → LeavesBlocks old new
 leaves_all old new same here fills = record {
   seals = λ block inside. ap (λ (s : SsaState). is_yes (sealed_of s block)) same;
+  waits = λ block inside. ap (λ (s : SsaState). pending_of (sealed_of s block)) same;
   fills = λ block inside other filled. fills block filled;
   position = λ block inside at. sym here ∙ at;
 }
@@ -215,6 +291,7 @@ leaves_all old new same here fills = record {
 pub leaves_on : {R : Type 0} (old mid new : FunctionBuilder R) → length old.func.now.blocks ≤ length mid.func.now.blocks → LeavesBlocks old mid → LeavesBlocks mid new → LeavesBlocks old new
 leaves_on old mid new more first next = record {
   seals = λ block inside. next.seals block (omega (arith, more, inside)) ∙ first.seals block inside;
+  waits = λ block inside. next.waits block (omega (arith, more, inside)) ∙ first.waits block inside;
   fills = λ block inside other filled.
       first.fills block inside other (next.fills block (omega (arith, more, inside)) (λ is. other (first.position block inside is)) filled);
   position = λ block inside at. first.position block inside (next.position block (omega (arith, more, inside)) at);

@@ -1,16 +1,16 @@
 -- What the steps of a switch make of a builder. Source: own.
-use Rattle.std.specs.Prelude.{◌≡◌, ◌≢◌, ◌↔◌, ◌<◌, ◌≤◌, ◌+◌, ◌-◌, ◌^◌, ◌==◌, if◌then◌else◌, ℕ, suc, false, IsTrue, List, [], ◌∷◌, ◌++◌, length, map, replicate, Contains, All, AllPairs, Some, None, Result, Err, OnOk, IfOk, is_err}
+use Rattle.std.specs.Prelude.{◌≡◌, ◌≢◌, ◌↔◌, ◌<◌, ◌≤◌, ◌+◌, ◌-◌, ◌^◌, ◌==◌, ◌⊎◌, if◌then◌else◌, ℕ, suc, false, IsTrue, List, [], ◌∷◌, ◌++◌, length, map, replicate, Contains, All, AllPairs, Some, None, Result, Err, OnOk, IfOk, is_err}
 use Rattle.std.specs.List.{AllByRecursion, AllZip}
 use Rattle.clif_types.specs.Signature.{SignatureShape}
 use Rattle.clif_types.specs.declared.condcodes.IntCC.TheVariants.{Equal, UnsignedGreaterThan}
 use Rattle.clif_types.specs.declared.error.BuildError.{BuildError}
-use Rattle.clif_types.specs.declared.error.BuildError.TheVariants.{Failed}
+use Rattle.clif_types.specs.declared.error.BuildError.TheVariants.{Failed, Full}
 use Rattle.clif_types.specs.declared.types.«Type».{«Type»}
 use Rattle.clif_types.specs.Types.{is_int}
 use Rattle.clif_instructions.specs.declared.block_call.BlockCall.{BlockCall}
-use Rattle.clif_ir.specs.Body.{value_at}
+use Rattle.clif_ir.specs.Body.{Body, value_at}
 use Rattle.clif_ir.specs.Changes.{with_tables}
-use Rattle.clif_tables.specs.Lists.{with_jump_table}
+use Rattle.clif_tables.specs.Lists.{TableLists, with_jump_table}
 use Rattle.clif_ranges.specs.declared.search.Next.{Next}
 use Rattle.clif_ranges.specs.declared.search.Node.{Node}
 use Rattle.clif_ranges.specs.declared.search.Test.{Test}
@@ -19,7 +19,8 @@ use Rattle.clif_meaning.specs.Instruction.{Compare}
 use Rattle.clif_meaning.specs.Ledger.{type_of}
 use Rattle.clif_meaning.specs.Name.{Name, answer_of}
 use Rattle.clif_meaning.specs.Request.{AnsweredCall, CreateBlock, SealBlock, SwitchToBlock, Script, script_of}
-use Rattle.clif_records.specs.Tables.{is_yes}
+use Rattle.clif_records.specs.Tables.{is_yes, pending_of}
+use Rattle.clif_ssa.specs.Limits.{IsFull}
 use Rattle.clif_ssa.specs.Ssa.{sealed_of}
 use Rattle.clif_ssa.specs.Structure.{LooksOnce}
 use Rattle.clif_builder.specs.declared.builder.FunctionBuilder.{FunctionBuilder}
@@ -27,6 +28,7 @@ use Rattle.clif_builder.specs.declared.context.BlockStatus.TheVariants.{Filled}
 use Rattle.clif_builder.specs.Builder.{HasCurrent, IsLeft, SameLoans, is_free}
 use Rattle.clif_builder.specs.Context.{FillsNone, status_of}
 use Rattle.clif_builder.specs.Growth.{GrowsBesideTables, RemembersIn, TypesStay}
+use Rattle.clif_builder.specs.Keeping.{KeepsState}
 use Rattle.clif_builder.specs.Ledger.{NamesBlock, NamesValue, ledger_of}
 use Rattle.clif_builder.specs.StandsFor.{StandsFor}
 use Rattle.clif_expansion.specs.Emission.{building}
@@ -34,6 +36,14 @@ use Rattle.clif_switch_calls.specs.SwitchCalls.{Switched, block_for, blocks_of, 
 use Rattle.clif_switch.specs.declared.emission.SwitchedValue.{SwitchedValue}
 
 -- STEPS -------------------------------------------------------------------------------------------------------------------
+
+-- all tables stay but that of jump tables: value labels, constants and what was imported too
+abbrev pub MayAddJumpTables : TableLists → TableLists → Type 0
+MayAddJumpTables t u = u ≡ record t { jump_tables = u.jump_tables }
+
+-- a table is full that a switch needs: that of values, of instructions, of blocks or of jump tables holds as many entries as it can
+abbrev pub SwitchIsFull : Body → Type 0
+SwitchIsFull f = IsFull f ⊎ ((length f.blocks ≡ 2 ^ 32 - 1) ⊎ (length f.tables.jump_tables ≡ 2 ^ 32 - 1))
 
 -- Calls were made one behind the other, whatever the last one answers: as of one call that may fail, but that another block may be the
 -- current one.
@@ -49,6 +59,9 @@ pub record Steps {A : Type 0} {R : Type 0} (old new : FunctionBuilder R) (answer
   pub remembers : (x b : ℕ) → OnOk answer (RemembersIn x b old new)
   pub types : OnOk answer (TypesStay old.func.now new.func.now)
   pub exceptions : OnOk answer (new.func.now.tables.exception_tables ≡ old.func.now.tables.exception_tables)
+  pub keeps : OnOk answer (KeepsState old new)
+  pub adds : OnOk answer (MayAddJumpTables old.func.now.tables new.func.now.tables)
+  pub full : answer ≡ Err Full → SwitchIsFull new.func.now
 
 -- a block exists and isn't sealed, so that a branch may lead to it
 pub record MayLead {R : Type 0} (b : FunctionBuilder R) (block : ℕ) : Type 0 where
@@ -62,10 +75,11 @@ pub record IsSwitchedIn {R : Type 0} (b : FunctionBuilder R) (switched : Switche
   pub integer : IsTrue (is_int switched.ty)
   pub otherwise : MayLead b switched.otherwise
 
--- No block that there was is sealed that wasn't, and none but the current one is filled that wasn't. The current block is as before, or
--- is new.
+-- No block that there was is sealed that wasn't, and none but the current one is filled that wasn't. The parameters that wait in a block
+-- that there was go on waiting, and there are no others. The current block is as before, or is new.
 pub record LeavesBlocks {R : Type 0} (old new : FunctionBuilder R) : Type 0 where
   pub seals : (block : ℕ) → block < length old.func.now.blocks → is_yes (sealed_of new.ctx.now.parts.ssa block) ≡ is_yes (sealed_of old.ctx.now.parts.ssa block)
+  pub waits : (block : ℕ) → block < length old.func.now.blocks → pending_of (sealed_of new.ctx.now.parts.ssa block) ≡ pending_of (sealed_of old.ctx.now.parts.ssa block)
   pub fills : (block : ℕ) → block < length old.func.now.blocks → old.position ≢ Some block → status_of new.ctx.now.parts block ≡ Filled → status_of old.ctx.now.parts block ≡ Filled
   pub position : (block : ℕ) → block < length old.func.now.blocks → new.position ≡ Some block → old.position ≡ Some block
 
@@ -93,6 +107,7 @@ pub record StaysHere {A : Type 0} {R : Type 0} (old new : FunctionBuilder R) (an
 -- the block was sealed and became the current one, and nothing else changed
 pub record IsEntered {R : Type 0} (block : ℕ) (old new : FunctionBuilder R) : Type 0 where
   pub seals : (other : ℕ) → other ≢ block → is_yes (sealed_of new.ctx.now.parts.ssa other) ≡ is_yes (sealed_of old.ctx.now.parts.ssa other)
+  pub waits : (other : ℕ) → other ≢ block → pending_of (sealed_of new.ctx.now.parts.ssa other) ≡ pending_of (sealed_of old.ctx.now.parts.ssa other)
   pub fills : FillsNone old.ctx.now.parts new.ctx.now.parts
   pub position : new.position ≡ Some block
   pub tables : new.func.now.tables.jump_tables ≡ old.func.now.tables.jump_tables
@@ -115,10 +130,11 @@ pub record MakesTable {R : Type 0} (edges : List BlockCall) (old new : FunctionB
   pub number : IfOk answer (λ table. table ≡ length old.func.now.tables.jump_tables)
   pub stands : (signature : SignatureShape) (calls : List AnsweredCall) → StandsFor signature calls old → OnOk answer (StandsFor signature calls new)
 
--- a block that was made for a node: a branch may lead to it, and it hasn't its terminator
+-- a block that was made for a node: a branch may lead to it, it hasn't its terminator, and no parameter waits in it until it is sealed
 pub record IsOpenFor {R : Type 0} (b : FunctionBuilder R) (block : ℕ) : Type 0 where
   pub leads : MayLead b block
   pub unfilled : status_of b.ctx.now.parts block ≢ Filled
+  pub none_waits : pending_of (sealed_of b.ctx.now.parts.ssa block) ≡ []
 
 -- blocks were put behind others: they are open, and have rising numbers from that of the next block on
 pub record AddsBlocks {R : Type 0} (count : ℕ) (old new : FunctionBuilder R) (before after : List ℕ) : Type 0 where

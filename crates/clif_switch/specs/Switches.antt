@@ -4,7 +4,7 @@ use Rattle.std.specs.Prelude.{◌≡◌, ◌↔◌, ◌<◌, ◌≤◌, ◌+◌,
 use Rattle.std.specs.FinMap as map
 use Rattle.clif_types.specs.Signature.{SignatureShape}
 use Rattle.clif_types.specs.Types.{is_int}
-use Rattle.clif_types.specs.declared.error.BuildError.TheVariants.{Failed}
+use Rattle.clif_types.specs.declared.error.BuildError.TheVariants.{Failed, Full}
 use Rattle.clif_types.specs.declared.types.«Type».{«Type»}
 use Rattle.clif_ir.specs.Body.{value_at}
 use Rattle.clif_ranges.specs.declared.ranges.CaseRange.{CaseRange}
@@ -18,6 +18,7 @@ use Rattle.clif_meaning.specs.Request.{AnsweredCall, script_of}
 use Rattle.clif_builder.specs.declared.builder.FunctionBuilder.{FunctionBuilder}
 use Rattle.clif_builder.specs.Builder.{HasCurrent, IsLeft, SameLoans, is_free}
 use Rattle.clif_builder.specs.Growth.{GrowsBesideTables, RemembersIn, TypesStay}
+use Rattle.clif_builder.specs.Keeping.{KeepsState}
 use Rattle.clif_builder.specs.Ledger.{NamesBlock, NamesValue, ledger_of}
 use Rattle.clif_ssa.specs.Structure.{LooksOnce}
 use Rattle.clif_builder.specs.StandsFor.{StandsFor}
@@ -25,7 +26,7 @@ use Rattle.clif_expansion.specs.Keys.{table_count}
 use Rattle.clif_expansion.specs.Switching.{IsSwitchCode}
 use Rattle.clif_switch_calls.specs.SwitchCalls.{Switched}
 use Rattle.clif_switch_calls.specs.SwitchLaw.{case_edges, case_keys}
-use Rattle.clif_switch.specs.Emission.{LeavesBlocks, MayLead}
+use Rattle.clif_switch.specs.Emission.{MayAddJumpTables, LeavesBlocks, MayLead, SwitchIsFull}
 
 -- A switch on the value may be built, of cases with these blocks: it is an integer, and branches may lead to all blocks.
 pub record MayEmit {R : Type 0} (cases : CaseMap) (value otherwise : ℕ) (b : FunctionBuilder R) : Type 0 where
@@ -64,6 +65,8 @@ pub record Emits {R : Type 0} (cases : CaseMap) (value otherwise : ℕ) (old new
   pub failed : (answer ≡ Err (switch_error.Build Failed)) ↔ IsTrue old.failed
   pub unchanged : IsTrue old.failed → new ≡ old
   pub errors : IfErr answer (IsUnemitted cases (value_at old.func.now value).ty old new)
+  -- where an error says so, a table that the switch needs is full
+  pub full : answer ≡ Err (switch_error.Build Full) → SwitchIsFull new.func.now
   -- the greatest key is looked at before anything else
   pub too_wide : (max : ℕ) → (answer ≡ Err (switch_error.KeyTooWide (value_at old.func.now value).ty max))
       ↔ ((old.failed ≡ false) × IsKeyTooWide cases (value_at old.func.now value).ty max)
@@ -75,6 +78,10 @@ pub record Emits {R : Type 0} (cases : CaseMap) (value otherwise : ℕ) (old new
   pub remembers : (x b : ℕ) → OnOk answer (RemembersIn x b old new)
   pub types : OnOk answer (TypesStay old.func.now new.func.now)
   pub exceptions : OnOk answer (new.func.now.tables.exception_tables ≡ old.func.now.tables.exception_tables)
+  -- each instruction that was made has the builder's source place, and what was recorded for stack maps stays
+  pub keeps : OnOk answer (KeepsState old new)
+  -- all tables stay but that of jump tables
+  pub adds : OnOk answer (MayAddJumpTables old.func.now.tables new.func.now.tables)
   -- as many jump tables were made, each of which serves, as there are ranges of more than one key
   pub tables : OnOk answer (new.func.now.tables.jump_tables ≡ old.func.now.tables.jump_tables ++ replicate (table_count (case_keys cases) (case_keys cases)) None)
   pub leaves : OnOk answer (LeavesBlocks old new)

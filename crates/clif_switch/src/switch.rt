@@ -75,13 +75,15 @@ impl Switch {
 
     /// Appends the instructions that go by a value to the block of its case, or to `otherwise` where it has none: tests, each in a block of
     /// its own but for the first one, and jump tables for ranges of consecutive indices. The order in which entries were set doesn't
-    /// matter. The current block is left afterwards, and so are the blocks that were made, which are sealed.
+    /// matter. The current block is left afterwards, and so are the blocks that were made, which are sealed. Each instruction has
+    /// the builder's source place.
     ///
     /// # Errors
     ///
     /// `Build(Failed)`, exactly where the builder failed before. `KeyTooWide`, exactly where it hadn't and the greatest index is no number
-    /// of the value's type, and `TableTooLong`, where 2^32 indices or more are consecutive: the builder is as it was then. And the errors
-    /// of the calls that build instructions and blocks.
+    /// of the value's type, and `TableTooLong`, where 2^32 indices or more are consecutive: the builder is as it was then. And
+    /// `Build(Memory)`, where memory is refused, or `Build(Full)`, where a table of the function holds 2^32 - 1 entries: the builder
+    /// has failed then.
     pub fn emit(
         self,
         bx: &mut FunctionBuilder<'_>,

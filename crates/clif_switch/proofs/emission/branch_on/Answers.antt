@@ -23,7 +23,7 @@ returns-clause-ends g c =
     let went = went_then c.args.bx.now c.emit_number.new.bx c.icmp.new.self
     (gives_went c.args.bx.now c.emit_number.new.bx c.args.switched.ty c.in_ok-constant.constant number.gives number.position)
     (value_went c.emit_number.new.bx c.icmp.new.self _ _ c.in_ok-holds.holds c.in_ok-holds.ensures.built) in
-    ends_then 0 c.args.bx.now c.icmp.new.self c.brif.new.self (tt {0}) went (ends_by c.icmp.new.self c.brif.new.self _ _ c.in_ok-brif.field-0 refl c.in_ok-brif.ensures.built)
+    ends_then 0 c.args.bx.now c.icmp.new.self c.brif.new.self (tt {0}) went (ends_by c.icmp.new.self c.brif.new.self _ _ c.in_ok-brif.field-0 refl went.current c.in_ok-brif.ensures.built)
 
 pub returns-clause-made : goal.returns-clause-made
 returns-clause-made g c = λ signature calls s cases plain at t o tn on.

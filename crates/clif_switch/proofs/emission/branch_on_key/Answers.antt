@@ -1,9 +1,13 @@
 -- The key zero needs no comparison.
-use Rattle.std.proofs.Common.{ℕ, sym, ◌∙◌, subst}
+use Rattle.std.proofs.Common.{ℕ, refl, sym, ◌∙◌, subst}
 use Rattle.clif_switch.specs.Emission.{StandsOn, key_calls, next_place}
+use Rattle.clif_switch.proofs.Blocks.{ends_by}
 use Rattle.clif_switch.proofs.Compared.{branch_made}
 use Rattle.clif_switch.proofs.Numbers.{held_is, type_is}
 use Rattle.clif_switch.proofs.emission.branch_on_key.Goals as goal
+
+pub returns-in_ok-brif-clause-ends : goal.returns-in_ok-brif-clause-ends
+returns-in_ok-brif-clause-ends g c = ends_by c.args.bx.now c.brif.new.self _ _ c.in_ok-brif.field-0 refl c.requires.current c.in_ok-brif.ensures.built
 
 pub returns-in_ok-brif-clause-made : goal.returns-in_ok-brif-clause-made
 returns-in_ok-brif-clause-made g c = λ signature calls s cases plain at t o tn on.

@@ -22,7 +22,7 @@ use Rattle.clif_switch.proofs.emission.check_index.Goals as goal
 pub returns-in_err-is_greater-clause-ends : goal.returns-in_err-is_greater-clause-ends
 returns-in_err-is_greater-clause-ends g c =
     let made = c.in_ok-block.ensures in
-    let went = created_went c.args.bx.now c.create_block.new.self c.in_ok-block.block made.call made.variables made.grows made.remembers made.sealed (made.current c.requires.current) in
+    let went = created_went c.args.bx.now c.create_block.new.self c.in_ok-block.block made.call made.variables made.function made.tracking made.grows made.remembers made.sealed (made.current c.requires.current) in
     let here : c.args.place < length c.create_block.new.self.func.now.values = let more = made.grows.0 in let inside = c.requires.exists in omega (arith, more, inside) in
     let gives = with_constant_gives c.create_block.new.self c.icmp_imm_s.new.self (λ constant. shapes.int_compare UnsignedGreaterThan c.args.place constant) _ c.args.place _ i8 (Err c.in_err-is_greater.field-0.0)
     here refl (λ constant. refl) c.in_err-is_greater.ensures.built in
@@ -32,25 +32,25 @@ pub returns-in_err-brif-clause-ends : goal.returns-in_err-brif-clause-ends
 returns-in_err-brif-clause-ends g c =
     let made = c.in_ok-block.ensures in
     let went = went_then c.args.bx.now c.create_block.new.self c.icmp_imm_s.new.self
-    (created_went c.args.bx.now c.create_block.new.self c.in_ok-block.block made.call made.variables made.grows made.remembers made.sealed (made.current c.requires.current))
+    (created_went c.args.bx.now c.create_block.new.self c.in_ok-block.block made.call made.variables made.function made.tracking made.grows made.remembers made.sealed (made.current c.requires.current))
     (with_constant_went c.create_block.new.self c.icmp_imm_s.new.self _ _ c.args.place _ c.in_ok-is_greater.is_greater c.in_ok-is_greater.ensures.built) in
-    ends_error 0 c.args.bx.now c.icmp_imm_s.new.self c.brif.new.self c.from_residual-in_err-brif.result c.in_err-brif.field-0.0 _ _ went c.in_err-brif.ensures.built c.from_residual-in_err-brif.ensures.1
+    ends_error 0 c.args.bx.now c.icmp_imm_s.new.self c.brif.new.self c.from_residual-in_err-brif.result c.in_err-brif.field-0.0 (shapes.brif_to c.in_ok-is_greater.is_greater c.args.switched.otherwise [] c.in_ok-block.block []) _ (omega arith) went c.in_err-brif.ensures.built c.from_residual-in_err-brif.ensures.1
 
 pub returns-clause-ends : goal.returns-clause-ends
 returns-clause-ends g c =
     let made = c.in_ok-block.ensures in
     let went = went_then c.args.bx.now c.create_block.new.self c.icmp_imm_s.new.self
-    (created_went c.args.bx.now c.create_block.new.self c.in_ok-block.block made.call made.variables made.grows made.remembers made.sealed (made.current c.requires.current))
+    (created_went c.args.bx.now c.create_block.new.self c.in_ok-block.block made.call made.variables made.function made.tracking made.grows made.remembers made.sealed (made.current c.requires.current))
     (with_constant_went c.create_block.new.self c.icmp_imm_s.new.self _ _ c.args.place _ c.in_ok-is_greater.is_greater c.in_ok-is_greater.ensures.built) in
     ends_then 0 c.args.bx.now c.icmp_imm_s.new.self c.brif.new.self c.in_ok-block.block went
-    (ends_by c.icmp_imm_s.new.self c.brif.new.self _ _ c.in_ok-brif.field-0 refl c.in_ok-brif.ensures.built)
+    (ends_by c.icmp_imm_s.new.self c.brif.new.self _ _ c.in_ok-brif.field-0 refl went.current c.in_ok-brif.ensures.built)
 
 pub returns-clause-open : goal.returns-clause-open
 returns-clause-open g c =
     let made = c.in_ok-block.ensures in
     let compared = with_constant_went c.create_block.new.self c.icmp_imm_s.new.self _ _ c.args.place _ c.in_ok-is_greater.is_greater c.in_ok-is_greater.ensures.built in
     let ends = ends_then 0 c.create_block.new.self c.icmp_imm_s.new.self c.brif.new.self c.in_ok-block.block compared
-    (ends_by c.icmp_imm_s.new.self c.brif.new.self _ _ c.in_ok-brif.field-0 refl c.in_ok-brif.ensures.built) in
+    (ends_by c.icmp_imm_s.new.self c.brif.new.self _ _ c.in_ok-brif.field-0 refl compared.current c.in_ok-brif.ensures.built) in
     let later : length c.args.bx.now.func.now.blocks ≤ c.in_ok-block.block = let same = made.number in omega (arith, same) in
     open_on c.create_block.new.self c.brif.new.self c.in_ok-block.block ends.steps.grows.2 ends.leaves (λ is. elsewhere c.args.bx.now c.in_ok-block.block c.requires.current later (sym made.call.position ∙ is))
     (created_open c.create_block.new.self c.in_ok-block.block made.exists made.untouched)

@@ -1,7 +1,7 @@
 -- An index of 32 bits, by the width of the value.
 use Rattle.std.proofs.Common.{◌≡◌, ℕ, [], ◌∷◌, ◌++◌, refl, ◌∙◌, ap, arith, append-nil}
 use Rattle.std.proofs.lemmas.Grind.{common_steps}
-use Rattle.clif_opcodes.specs.declared.opcodes.ConvertOpcode.TheVariants.{Ireduce}
+use Rattle.clif_opcodes.specs.declared.opcodes.ConvertOpcode.TheVariants.{Ireduce, Uextend}
 use Rattle.clif_types.specs.Types.{bits_of}
 use Rattle.clif_inst_builder.specs.Shapes as shapes
 use Rattle.clif_meaning.specs.Name.{answer_of}
@@ -38,6 +38,10 @@ returns-in_ok-enter-clause-made g c = λ signature calls s cases plain at x name
     wide_made at reads asks c.enter.new.bx c.ireduce.new.self x c.args.place c.ireduce.result wide.0 wide.1
     (on_then at (check_calls s place x) (SealBlock (answer_of place 0) ∷ SwitchToBlock (answer_of place 0) ∷ []) c.enter.new.bx checked.on entered)
     (entered.values_stay x c.args.place (checked.on.values_stay x c.args.place names)) c.ireduce.ensures.built
+
+pub returns-then-bits-lt32-clause-gives : goal.returns-then-bits-lt32-clause-gives
+returns-then-bits-lt32-clause-gives g c =
+    gives_first c.args.bx.now c.uextend.new.self (shapes.convert Uextend c.args.place) i32 c.uextend.result i32 refl c.uextend.ensures.built
 
 pub returns-then-bits-lt32-clause-made : goal.returns-then-bits-lt32-clause-made
 returns-then-bits-lt32-clause-made g c = λ signature calls s cases plain at x names.

@@ -12,9 +12,10 @@ use Rattle.clif_builder.specs.Ledger.{NamesEdges}
 use Rattle.clif_expansion.specs.Emission.{building}
 use Rattle.clif_switch_calls.specs.SwitchCalls.{answers_of, bare_edge, difference, difference_name, index_calls, index_name, table_targets}
 use Rattle.clif_switch.specs.Emission.{MayLead, NamesAnswer, StandsOn, bare_to, difference_calls, difference_named, next_place, tables_at}
+use Rattle.clif_switch.proofs.Emitted.{fails_then}
 use Rattle.clif_switch.proofs.Names.{on_then}
 use Rattle.clif_switch.proofs.Numbers.{place_after}
-use Rattle.clif_switch.proofs.Serving.{all_lead, all_lead_on, held_is_table, may_serve, served, table_ends, table_leaves, table_then}
+use Rattle.clif_switch.proofs.Serving.{all_lead, all_lead_on, held_is_table, may_serve, served, served_fails, table_ends, table_leaves, table_then}
 use Rattle.clif_switch.proofs.Steps.{leaves_on, may_lead_on, steps_ok, steps_on}
 use Rattle.clif_switch.proofs.Tables.{all_edges, edge_requests, table_branch_made, table_length, table_stood}
 use Rattle.clif_switch.proofs.Values.{done}
@@ -52,7 +53,17 @@ returns-clause-ends g c =
     let steps = steps_on c.args.bx.now c.jump_table.new.bx c.emit_difference.new.bx c.in_ok-table.table done table.steps (steps_ok c.jump_table.new.bx c.emit_difference.new.bx c.in_ok-place.place (tt {0}) place.steps) in
     let whole = steps_on c.args.bx.now c.emit_difference.new.bx c.emit_index.new.bx (tt {0}) done steps (steps_ok c.emit_difference.new.bx c.emit_index.new.bx c.in_ok-index.index (tt {0}) index.steps) in
     let is = served c.emit_index.new.bx c.br_table.new.self c.in_ok-table.table c.in_ok-index.index c.in_ok-br_table.field-0 c.in_ok-br_table.ensures.built in
-    table_ends c.args.bx.now c.emit_index.new.bx is.between c.br_table.new.self c.in_ok-table.table c.in_ok-br_table.field-0 c.in_ok-index.index edges is.held whole leaves tables table.number is.takes is.builds
+    table_ends c.args.bx.now c.emit_index.new.bx is.between c.br_table.new.self c.in_ok-table.table c.in_ok-br_table.field-0 c.in_ok-index.index edges is.held index.current whole leaves tables table.number is.takes is.builds
+
+pub returns-in_err-br_table-clause-ends : goal.returns-in_err-br_table-clause-ends
+returns-in_err-br_table-clause-ends g c =
+    let table = c.in_ok-table.ensures in
+    let steps = steps_on c.args.bx.now c.jump_table.new.bx c.emit_difference.new.bx c.in_ok-table.table done table.steps
+    (steps_ok c.jump_table.new.bx c.emit_difference.new.bx c.in_ok-place.place (tt {0}) c.in_ok-place.ensures.gives.steps) in
+    let whole = steps_on c.args.bx.now c.emit_difference.new.bx c.emit_index.new.bx (tt {0}) done steps
+    (steps_ok c.emit_difference.new.bx c.emit_index.new.bx c.in_ok-index.index (tt {0}) c.in_ok-index.ensures.gives.steps) in
+    fails_then 1 c.args.bx.now c.emit_index.new.bx c.br_table.new.self c.from_residual-in_err-br_table.result c.in_err-br_table.field-0.0 whole
+    (served_fails c.emit_index.new.bx c.br_table.new.self c.in_ok-table.table c.in_ok-index.index c.in_err-br_table.field-0.0 c.in_err-br_table.ensures.built) c.from_residual-in_err-br_table.ensures.1
 
 pub returns-clause-made : goal.returns-clause-made
 returns-clause-made g c = λ signature calls s cases plain at are.

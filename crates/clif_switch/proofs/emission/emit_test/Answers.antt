@@ -1,5 +1,5 @@
 -- Blocks are made for other nodes, and a branch behind them.
-use Rattle.std.proofs.Common.{◌≡◌, ◌<◌, ◌+◌, ℕ, suc, List, [], ◌∷◌, ◌++◌, length, sym, ◌∙◌, subst, arith, append_assoc}
+use Rattle.std.proofs.Common.{◌≡◌, ◌<◌, ◌+◌, ℕ, suc, List, [], ◌∷◌, ◌++◌, length, refl, sym, ◌∙◌, subst, arith, append_assoc}
 use Rattle.std.specs.Prelude.{All, Contains, Ok, OnOk, Result, slice_index_or}
 use Rattle.std.specs.List.{AllZip}
 use Rattle.std.proofs.lemmas.Grind.{get_or_default_zero}
@@ -12,13 +12,18 @@ use Rattle.clif_meaning.specs.Request.{CreateBlock, Script}
 use Rattle.clif_builder.specs.Ledger.{NamesBlock}
 use Rattle.clif_switch_calls.specs.SwitchCalls.{block_for, blocks_of, compared, first_block, name_for, other_of, tables_of, test_calls}
 use Rattle.clif_switch.specs.Emission.{AddsBlocks, EndsBlock, HasItsBlock, NamesTarget, StandsOn, cases_in, key_calls, next_place, tables_at}
-use Rattle.clif_switch.proofs.Blocks.{stays_went}
+use Rattle.clif_switch.proofs.Blocks.{ends_by, stays_went}
 use Rattle.clif_switch.proofs.Names.{long}
 use Rattle.clif_switch.proofs.Numbers.{one_after, place_after}
 use Rattle.clif_switch.proofs.Targets.{zip_more}
 use Rattle.clif_switch.proofs.Tests.{adds_ended, adds_push, ends_behind, jump_made, names_after, names_then, same_after}
-use Rattle.clif_switch.proofs.Values.{went_then}
+use Rattle.clif_switch.proofs.Values.{done, went_then}
 use Rattle.clif_switch.proofs.emission.emit_test.Goals as goal
+
+pub returns-in_ok-jump-in-Nothing-clause-ends : goal.returns-in_ok-jump-in-Nothing-clause-ends
+returns-in_ok-jump-in-Nothing-clause-ends g c =
+    subst (λ (t : Test). EndsBlock {A = Unit {0}} (tables_of t) c.args.bx.now c.jump.new.self done) (sym c.in-Nothing.is)
+    (ends_by c.args.bx.now c.jump.new.self _ _ c.in_ok-jump-in-Nothing.field-0 refl c.requires.current c.in_ok-jump-in-Nothing.ensures.built)
 
 pub returns-in_ok-jump-in-Nothing-clause-made : goal.returns-in_ok-jump-in-Nothing-clause-made
 returns-in_ok-jump-in-Nothing-clause-made g c = λ signature calls s cases plain at names needs zip.

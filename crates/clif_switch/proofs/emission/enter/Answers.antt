@@ -1,24 +1,38 @@
 -- The seal and the change of block stand one behind the other.
-use Rattle.std.proofs.Common.{[], ◌∷◌, ◌++◌, refl}
+use Rattle.std.proofs.Common.{[], ◌∷◌, ◌++◌, refl, ap}
 use Rattle.std.specs.Prelude.{Ok, Err}
+use Rattle.clif_ir.specs.Body.{Body}
+use Rattle.clif_records.specs.Tables.{pending_of}
+use Rattle.clif_ssa.specs.Ssa.{sealed_of}
+use Rattle.clif_builder.proofs.Keeping.{keeps_insts}
 use Rattle.clif_meaning.specs.Request.{SealBlock, SwitchToBlock}
 use Rattle.clif_builder.specs.Calls.{answered}
 use Rattle.clif_switch.specs.Emission.{StandsOn}
+use Rattle.clif_switch.proofs.Blocks.{is_entered}
 use Rattle.clif_switch.proofs.Names.{on_then, stands_behind}
-use Rattle.clif_switch.proofs.Steps.{call_steps, entered_steps, steps_fails}
+use Rattle.clif_switch.proofs.Steps.{adds_none, call_steps, entered_steps, not_full, sealing_full, steps_fails}
 use Rattle.clif_switch.proofs.emission.enter.Goals as goal
 
 pub returns-in_err-seal_block-clause-steps : goal.returns-in_err-seal_block-clause-steps
 returns-in_err-seal_block-clause-steps g c =
     let failed = c.in_err-seal_block.ensures in
     steps_fails c.args.bx.now c.seal_block.new.self c.from_residual.result c.in_err-seal_block.field-0.0
-    (call_steps {A = Unit {0}} c.args.bx.now c.seal_block.new.self (Err c.in_err-seal_block.field-0.0) failed.call failed.variables tt (λ x b. tt)) c.from_residual.ensures.1
+    (call_steps {A = Unit {0}} c.args.bx.now c.seal_block.new.self (Err c.in_err-seal_block.field-0.0) failed.call failed.variables tt (λ x b. tt) tt tt
+    (λ is. sealing_full c.args.bx.now.func.now c.seal_block.new.self.func.now (pending_of (sealed_of c.args.bx.now.ctx.now.parts.ssa c.args.block)) c.requires.open.none_waits (failed.full is))) c.from_residual.ensures.1
 
 pub returns-clause-steps : goal.returns-clause-steps
 returns-clause-steps g c =
     let sealed = c.in_ok-seal_block.ensures in
+    let alone = sealed.alone c.requires.open.none_waits in
     entered_steps c.args.bx.now c.seal_block.new.self c.switch_to_block.new.self c.in_ok-seal_block.field-0 c.args.block
-    (call_steps c.args.bx.now c.seal_block.new.self (Ok c.in_ok-seal_block.field-0) sealed.call sealed.variables sealed.grows sealed.remembers) c.switch_to_block.ensures.builder
+    (call_steps c.args.bx.now c.seal_block.new.self (Ok c.in_ok-seal_block.field-0) sealed.call sealed.variables sealed.grows sealed.remembers
+    (keeps_insts c.args.bx.now c.seal_block.new.self (ap (λ (f : Body). f.insts) alone.function) alone.tracking sealed.remembers)
+    (adds_none c.args.bx.now.func.now.tables c.seal_block.new.self.func.now.tables (ap (λ (f : Body). f.tables) alone.function)) (λ is. not_full c.in_ok-seal_block.field-0 is)) c.switch_to_block.ensures.builder
+
+pub returns-clause-entered : goal.returns-clause-entered
+returns-clause-entered g c =
+    let sealed = c.in_ok-seal_block.ensures in
+    is_entered c.args.bx.now c.seal_block.new.self c.switch_to_block.new.self c.args.block sealed.call.fills (sealed.alone c.requires.open.none_waits) c.switch_to_block.ensures.builder c.switch_to_block.ensures.current
 
 pub returns-clause-made : goal.returns-clause-made
 returns-clause-made g c = λ signature calls s x otherwise cases plain at name names.

@@ -10,7 +10,7 @@ use Rattle.clif_switch.proofs.emission.jump_table.Goals as goal
 
 pub returns-then-is_err : goal.returns-then-is_err
 returns-then-is_err g c =
-    table_refused _ c.args.bx.now c.block_call-in-loop-block.new.self c.refuse.new.self c.refuse.result (shapes.unary_imm (pos 0)) type.Invalid
+    table_refused _ c.args.bx.now c.block_call-in-loop-block.new.self c.refuse.new.self c.refuse.result (shapes.unary_imm (pos 0)) type.Invalid (omega arith)
     (kept_on c.args.bx.now c.loop-block.bx c.block_call-in-loop-block.new.self c.loop-block.invariant.0 (kept_first c.loop-block.bx c.block_call-in-loop-block.new.self _ [] c.in_ok-entry.entry c.in_ok-entry.ensures))
     (c.refuse.ensures.refused (shapes.unary_imm (pos 0)) type.Invalid)
 
@@ -24,7 +24,7 @@ loop-block-preserved g c =
 
 pub returns-in_default : goal.returns-in_default
 returns-in_default g c =
-    table_refused _ c.args.bx.now c.loop-block.bx c.refuse-in_default.new.self c.refuse-in_default.result (shapes.unary_imm (pos 0)) type.Invalid c.loop-block.invariant.0
+    table_refused _ c.args.bx.now c.loop-block.bx c.refuse-in_default.new.self c.refuse-in_default.result (shapes.unary_imm (pos 0)) type.Invalid (omega arith) c.loop-block.invariant.0
     (c.refuse-in_default.ensures.refused (shapes.unary_imm (pos 0)) type.Invalid)
 
 pub returns : goal.returns

@@ -16,7 +16,7 @@ returns g c =
       built =
           builds_appended c.args.self.now _ c.args.shape c.args.ctrl_type c.in-Some.block c.append-built.result
           c.if-self.false c.requires.current c.in-Some.is c.law_consistent.ensures c.requires.operands_exist c.requires.edges (record { func = refl; ctx = refl; region = refl }) refl refl
-          c.is_err-self.ensures.value done.appends done.declares done.ssa done.variables done.full done.never_failed done.looks_once;
+          c.is_err-self.ensures.value done.appends done.declares done.ssa done.variables done.full done.full_stays done.never_failed done.looks_once;
     }
 
 pub invariant_of-self : goal.invariant_of-self

@@ -1,5 +1,5 @@
 -- The nodes of the search are emitted, unless the switch is refused before.
-use Rattle.std.proofs.Common.{◌≡◌, ℕ, pos, List, [], ◌∷◌, sym, ◌∙◌, ap, subst}
+use Rattle.std.proofs.Common.{arith, ◌≡◌, ℕ, pos, List, [], ◌∷◌, sym, ◌∙◌, ap, subst}
 use Rattle.std.specs.Prelude.{All, Contains}
 use Rattle.std.specs.List.{AllByRecursion}
 use Rattle.std.specs.FinMap as finite
@@ -17,7 +17,7 @@ use Rattle.clif_switch.specs.Emission.{HasItsBlock, MakesNodes, MayLead, cases_i
 use Rattle.clif_switch.proofs.Values.{done}
 use Rattle.clif_switch.proofs.Cases.{all_blocks, all_cases, all_hold, blocks_of_cases, each_case, separate}
 use Rattle.clif_switch.proofs.Answered.{emitted, failed_by, key_too_wide, memory_not_wide, none_too_wide, refuses_of, table_too_long, was_failed}
-use Rattle.clif_switch.proofs.Steps.{builds_steps, steps_err}
+use Rattle.clif_switch.proofs.Steps.{refused_steps}
 use Rattle.clif_switch.proofs.switch.Switch.emit.Goals as goal
 
 -- the types of the value, as it was read and as it is held
@@ -51,7 +51,7 @@ returns-in-Err-Build g c =
     failed_by c.args.self c.args.val c.args.otherwise c.args.bx.now c.refuse.new.self c.refuse.result
     (λ max sound. memory_not_wide c.args.self _ c.in-Err-Build.field-0 c.in-Err-Build.field-0-0 c.in-Err-Build.field-0-is
     (refuses_of c.self.inside.cases c.args.self c.value_type-ty.result _ c.in-Err-Build.field-0 c.self.view_is read c.in-Err-Build.ensures.err c.in-Err-Build.ensures.too_wide) max)
-    (steps_err c.args.bx.now c.refuse.new.self c.refuse.result (builds_steps c.args.bx.now c.refuse.new.self (shapes.unary_imm (pos 0)) type.Invalid _ (c.refuse.ensures.refused (shapes.unary_imm (pos 0)) type.Invalid)))
+    (refused_steps c.args.bx.now c.refuse.new.self (shapes.unary_imm (pos 0)) type.Invalid c.refuse.result (omega arith) (c.refuse.ensures.refused (shapes.unary_imm (pos 0)) type.Invalid))
 
 pub search_tree-requires : goal.search_tree-requires
 search_tree-requires g c = subst AreSeparate (sym c.as_slice.ensures.value) (separate (finite.entries c.self.inside.cases) c.in-Ok.ranges.items c.in-Ok.ensures.ok.ranges_of)
@@ -61,8 +61,8 @@ returns-in_default g c =
     let read = type_read c.args.bx.now.func.now c.func-2.result.now c.args.val c.value_type-ty.result c.value_type-ty.ensures c.func-2.ensures in
     failed_by c.args.self c.args.val c.args.otherwise c.args.bx.now c.refuse-in_default.new.self c.refuse-in_default.result
     (λ max sound. none_too_wide c.args.self _ (said_of FitType c.self.inside.cases c.args.self c.value_type-ty.result _ c.self.view_is read c.in-Ok.ensures.ok.fit) max)
-    (steps_err c.args.bx.now c.refuse-in_default.new.self c.refuse-in_default.result
-    (builds_steps c.args.bx.now c.refuse-in_default.new.self (shapes.unary_imm (pos 0)) type.Invalid _ (c.refuse-in_default.ensures.refused (shapes.unary_imm (pos 0)) type.Invalid)))
+    (refused_steps c.args.bx.now c.refuse-in_default.new.self (shapes.unary_imm (pos 0)) type.Invalid c.refuse-in_default.result (omega arith)
+    (c.refuse-in_default.ensures.refused (shapes.unary_imm (pos 0)) type.Invalid))
 
 pub emit_nodes-requires-clause-leads : goal.emit_nodes-requires-clause-leads
 emit_nodes-requires-clause-leads g c =

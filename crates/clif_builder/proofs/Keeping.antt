@@ -1,5 +1,5 @@
 -- What calls keep, one and then another.
-use Rattle.std.proofs.Common.{◌≡◌, ◌≤◌, ℕ, List, length, Bool, true, false, Option, inl, inr, refl, sym, ◌∙◌, ap, subst, arith}
+use Rattle.std.proofs.Common.{◌≡◌, ◌≤◌, ℕ, List, length, Bool, true, false, Option, Some, inl, inr, refl, sym, ◌∙◌, ap, subst, arith}
 use Rattle.std.specs.Prelude.{if◌then◌else◌, slice_index_or, IfSome, Ok}
 use Rattle.std.proofs.lemmas.Bool.{cases_lt}
 use Rattle.clif_types.specs.declared.types.«Type».{«Type»}
@@ -15,12 +15,12 @@ use Rattle.clif_ir.specs.Changes.{inserted_in, with_layout}
 use Rattle.clif_ssa.specs.Ssa.{SsaState}
 use Rattle.clif_ssa.proofs.Instructions.{inst_insts_more, inst_new, inst_old}
 use Rattle.clif_builder.specs.declared.builder.FunctionBuilder.{FunctionBuilder}
-use Rattle.clif_builder.specs.Builder.{Appends, AppendsValue, HasCurrent, with_appended}
+use Rattle.clif_builder.specs.Builder.{Appends, AppendsValue, with_appended}
 use Rattle.clif_builder.specs.Built.{Builds, BuildsValue}
 use Rattle.clif_builder.specs.Context.{ContextState}
 use Rattle.clif_builder.specs.Entries.{SetsTables}
 use Rattle.clif_builder.specs.Growth.{RemembersIn}
-use Rattle.clif_memory_helpers.specs.Keeping.{ArePlaced, KeepsState}
+use Rattle.clif_builder.specs.Keeping.{ArePlaced, KeepsState}
 
 -- SOURCE PLACES -----------------------------------------------------------------------------------------------------------
 
@@ -93,33 +93,33 @@ keeps_on old mid new more here first next = record {
   tracking = next.tracking ∙ first.tracking;
 }
 
-module _ {R : Type 0} (old new : FunctionBuilder R) (shape : InstructionData) (ty : «Type») (current : HasCurrent old) where
-  at_block : (P : ℕ → Type 0) → IfSome old.position P → P current.0
-  at_block P holds = subst (λ (o : Option ℕ). IfSome o P) current.1 holds
+module _ {R : Type 0} (old new : FunctionBuilder R) (shape : InstructionData) (ty : «Type») (block : ℕ) (here : old.position ≡ Some block) where
+  at_block : (P : ℕ → Type 0) → IfSome old.position P → P block
+  at_block P holds = subst (λ (o : Option ℕ). IfSome o P) here holds
 
-  appended_keeps : (inst : ℕ) → Appends old new current.0 shape ty inst → new.ctx.now.parts.ssa.tracking ≡ old.ctx.now.parts.ssa.tracking → ((x b : ℕ) → RemembersIn x b old new) → KeepsState old new
+  appended_keeps : (inst : ℕ) → Appends old new block shape ty inst → new.ctx.now.parts.ssa.tracking ≡ old.ctx.now.parts.ssa.tracking → ((x b : ℕ) → RemembersIn x b old new) → KeepsState old new
   appended_keeps inst appends tracking remembers = record {
-    placed = subst (ArePlaced old.srcloc old.func.now) (sym appends.function) (placed_appended old.func.now current.0 shape ty old.srcloc);
+    placed = subst (ArePlaced old.srcloc old.func.now) (sym appends.function) (placed_appended old.func.now block shape ty old.srcloc);
     remembers = remembers;
     tracking = tracking;
   }
 
   pub built_keeps : (inst : ℕ) → Builds old new shape ty (Ok inst) → KeepsState old new
-  built_keeps inst builds = appended_keeps inst (at_block (λ block. Appends old new block shape ty inst) builds.appends) builds.declares.tracking builds.remembers
+  built_keeps inst builds = appended_keeps inst (at_block (λ b. Appends old new b shape ty inst) builds.appends) builds.declares.tracking builds.remembers
 
   pub value_keeps : (v : ℕ) → BuildsValue old new shape ty (Ok v) → KeepsState old new
   value_keeps v builds =
-      appended_keeps (length old.func.now.insts) (at_block (λ block. AppendsValue old new block shape ty v) builds.appends).0 (ap (λ (s : SsaState). s.tracking) builds.ssa) builds.remembers
+      appended_keeps (length old.func.now.insts) (at_block (λ b. AppendsValue old new b shape ty v) builds.appends).0 (ap (λ (s : SsaState). s.tracking) builds.ssa) builds.remembers
 
-  tables_appended : (inst : ℕ) → Appends old new current.0 shape ty inst → new.func.now.tables ≡ old.func.now.tables
-  tables_appended inst appends = ap (λ (f : Body). f.tables) appends.function ∙ inserted_tables old.func.now current.0
+  tables_appended : (inst : ℕ) → Appends old new block shape ty inst → new.func.now.tables ≡ old.func.now.tables
+  tables_appended inst appends = ap (λ (f : Body). f.tables) appends.function ∙ inserted_tables old.func.now block
 
   -- an instruction changes no table
   pub built_tables : (inst : ℕ) → Builds old new shape ty (Ok inst) → new.func.now.tables ≡ old.func.now.tables
-  built_tables inst builds = tables_appended inst (at_block (λ block. Appends old new block shape ty inst) builds.appends)
+  built_tables inst builds = tables_appended inst (at_block (λ b. Appends old new b shape ty inst) builds.appends)
 
   pub value_tables : (v : ℕ) → BuildsValue old new shape ty (Ok v) → new.func.now.tables ≡ old.func.now.tables
-  value_tables v builds = tables_appended (length old.func.now.insts) (at_block (λ block. AppendsValue old new block shape ty v) builds.appends).0
+  value_tables v builds = tables_appended (length old.func.now.insts) (at_block (λ b. AppendsValue old new b shape ty v) builds.appends).0
 
 -- the tables were set, or an entry was made
 pub set_keeps : {A : Type 0} {R : Type 0} (old new : FunctionBuilder R) (tables : TableLists) (a : A) → SetsTables tables old new (Ok a) → KeepsState old new
