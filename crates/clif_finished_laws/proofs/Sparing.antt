@@ -157,6 +157,6 @@ carrying_spares calls f s width consistent carries finished marks hidden world f
     let all : Whole calls f s = Assembly.all calls f s consistent carries premises.targets_filled in
     spares calls f s width consistent all finished
     (Assembly.over_members calls all.own f s consistent (is_tracked (script_of calls)) (λ v. has (recorded_of s.tracking) v)
-    (Agreeing.values_agree calls f s consistent all finished marks apart) (is_marked (ledger_after (script_of calls))) hidden
-    (Agreeing.names_agree calls f s consistent all finished marks apart))
+    (Agreeing.values_agree calls f s consistent all marks apart) (is_marked (ledger_after (script_of calls))) hidden
+    (Agreeing.names_agree calls f s consistent all marks apart))
     world fits premises spared

@@ -13,7 +13,8 @@ pub mod OpenArms
 pub mod OpenFlow
 pub mod ComingCode
 mod OpenFront
-mod OpenEdges
+pub mod OpenEdges
+pub mod OpenCalls
 mod OpenStanding
 mod ComingStep
 mod OpenStepping

@@ -1,6 +1,6 @@
--- What is recorded agrees with what the calls mark and track. So a finished function, with a collector over what is recorded, means
--- what the calls' program means under their marks.
-use Rattle.std.proofs.Common.{◌≡◌, ◌≢◌, ℕ, zero, suc, ◌+◌, ◌<◌, ◌==◌, ◌&&◌, ◌||◌, Bool, true, false, List, [], ◌∷◌, length, Option, Some, None, ◌⊎◌, inl, inr, refl, sym, ◌∙◌, ap, subst, arith}
+-- What is recorded agrees with what the calls mark and track, of an unfinished function, too. So a finished one, with a collector over
+-- what is recorded, means what the calls' program means under their marks.
+use Rattle.std.proofs.Common.{◌≡◌, ◌≢◌, ℕ, zero, suc, ◌+◌, ◌<◌, ◌==◌, ◌&&◌, ◌||◌, Bool, true, false, List, [], ◌∷◌, ◌++◌, map, length, Option, Some, None, ◌⊎◌, inl, inr, refl, sym, ◌∙◌, ap, subst, arith, length-append}
 use Rattle.std.specs.Prelude.{IsTrue, Contains, slice_get, slice_index}
 use Rattle.std.specs.List.{AllByRecursion, list_any}
 use Rattle.std.proofs.lemmas.Bool.Decides.{nat_tests}
@@ -9,17 +9,19 @@ use Rattle.clif_types.specs.EntitySet.{has}
 use Rattle.clif_ir.specs.Body.{Body, block_at, resolved}
 use Rattle.clif_ir.specs.Consistent.{IsConsistent}
 use Rattle.clif_ir.specs.Reading.{param_home}
+use Rattle.clif_instructions.specs.declared.block_call.BlockArg.{BlockArg}
 use Rattle.clif_instructions.specs.declared.block_call.BlockArg.TheVariants.{Value}
 use Rattle.clif_instructions.specs.Members.{Once, place_of}
 use Rattle.clif_paths.specs.Places.{Arm, start}
 use Rattle.clif_paths.specs.State.{Definition, Function, Kind, Naming, Origin, born, complete, fresh, pending, reads, unborn, zero_of}
 use Rattle.clif_paths.specs.Blocks.{front, last_place}
 use Rattle.clif_paths.specs.ValueLabels.{AgreeOnProgram, LabelsKept, label_by}
-use Rattle.clif_records.specs.Tables.{is_yes}
+use Rattle.clif_records.specs.Tables.{is_yes, pending_of}
 use Rattle.clif_records.specs.Tracking.{marked_of, recorded_of}
 use Rattle.clif_ssa.specs.LookUp.{branch_block}
 use Rattle.clif_ssa.specs.Own.{Own}
 use Rattle.clif_ssa.specs.Ssa.{SsaState, predecessors_of, sealed_of}
+use Rattle.clif_ssa.specs.Structured.{AreFor, HasParameters}
 use Rattle.clif_ssa.specs.Sound.{IsParameterFor, HomeFits, IsBehind, IsEdgeInto, edge_target, has_entry, passed_at}
 use Rattle.clif_ssa.proofs.Alike.{unaliased_home}
 use Rattle.clif_ssa.proofs.Losing.{home_stands, stands_home}
@@ -31,7 +33,6 @@ use Rattle.clif_meaning.specs.Program.{Item, Instruct, Use, Assign}
 use Rattle.clif_meaning.specs.Request.{AnsweredCall, script_of}
 use Rattle.clif_meaning.specs.Tracked.{is_tracked, tracked_names}
 use Rattle.clif_simulation.specs.Carries.{IsValue}
-use Rattle.clif_simulation.specs.Laws.{IsFinished}
 use Rattle.clif_simulation.specs.Marked.{CarryingMeansTheSameTracked, IsPut, IsTrackedAsMarked, NamesAgree, ValuesAgree}
 use Rattle.clif_simulation.specs.Reading.{IsGivenFresh}
 use Rattle.clif_simulation.specs.Tables.{answered, code, program_so_far}
@@ -50,7 +51,7 @@ use Rattle.clif_simulation.proofs.Tracking.Coming.{AnswersUse, each_comes, fresh
 use Rattle.clif_simulation.proofs.Tracking.Steps.{kinds_apart_born}
 use Rattle.clif_simulation.proofs.Tracking.TrackedNames.{IsAsked, IsUsed, asked_tracked, used_tracked, why_tracked}
 use Rattle.clif_simulation.proofs.Values.{value_answered}
-use Rattle.clif_simulation.proofs.Whole.{Whole}
+use Rattle.clif_simulation.proofs.Whole.{Whole, are_declared, declared_types, none_complete, sealed_none}
 
 -- TRUTH VALUES AS LABELS --------------------------------------------------------------------------------------------------
 
@@ -104,6 +105,23 @@ coded_any (m ∷ names) n =
         apart : (a b : ℕ) → a ≢ b → (a == b) ≡ false
         apart a b is = grind (arith, nat_tests)
 
+true_no_false : true ≡ false → ⊥
+true_no_false h = cc
+
+-- for no parameters there are no values
+for_none : (f : Body) (values : List ℕ) → AreFor f values [] → values ≡ []
+for_none f [] are = refl
+for_none f (value ∷ values) are = absurd are
+
+-- nothing stands behind a list
+none_there : (made : List BlockArg) (values : List ℕ) (place argument : ℕ) → values ≡ []
+    → slice_get (made ++ map Value values) (length made + place) ≡ Some (Value argument) → ⊥
+none_there made values place argument none is =
+    let within = slice_get_within (made ++ map Value values) (length made + place) (Value argument) is in
+    let as_long : length (made ++ map Value values) ≡ length made + length (map Value values) = length-append made (map Value values) in
+    let no_values : length (map Value values) ≡ 0 = ap (λ (vs : List ℕ). length (map Value vs)) none in
+    absurd (omega (arith, within, as_long, no_values))
+
 -- PLACES OF LISTS -----------------------------------------------------------------------------------------------------------
 
 index_at : (xs : List ℕ) (k v : ℕ) → slice_get xs k ≡ Some v → slice_index xs k ≡ v
@@ -129,7 +147,7 @@ both_true false b is = is
 
 -- THE LABELS OF MARKS ------------------------------------------------------------------------------------------------------
 
-module _ (calls : List AnsweredCall) (f : Body) (s : SsaState) (consistent : IsConsistent f) (carries : Whole calls f s) (finished : IsFinished calls f s)
+module _ (calls : List AnsweredCall) (f : Body) (s : SsaState) (consistent : IsConsistent f) (carries : Whole calls f s)
     (marks : (x : ℕ) → is_marked (ledger_after (script_of calls)) x ≡ has (marked_of s.tracking) x)
     (apart : EachItem (KeepsTrackedApart (ledger_after (script_of calls)) (is_tracked (script_of calls))) (program_so_far calls))
   where
@@ -214,7 +232,7 @@ module _ (calls : List AnsweredCall) (f : Body) (s : SsaState) (consistent : IsC
         how (inr h) = inr (h.0, h.1, subst IsTrue (sym (marks h.0)) h.2)
 
     -- a parameter is a member exactly if its variable is marked
-    parameter_member : (v x : ℕ) → resolved f v ≡ v → IsParameterFor carries.tables v x → members v ≡ marked x
+    pub parameter_member : (v x : ℕ) → resolved f v ≡ v → IsParameterFor carries.tables v x → members v ≡ marked x
     parameter_member v x itself p =
         same_bool (members v) (marked x) (λ is. by (carries.tracked.only v (itself_here v itself) is))
         (λ is. carries.tracked.parameters v (itself_here v itself) (x, p, subst IsTrue (marks x) is))
@@ -341,6 +359,15 @@ module _ (calls : List AnsweredCall) (f : Body) (s : SsaState) (consistent : IsC
         abbrev params : List ℕ
         params = (block_at f target).params
 
+        passes_no_more : is_yes (sealed_of s target) ≡ false → ⊥
+        passes_no_more unsealed =
+            let has : HasParameters carries.own f s [] target = (carries.structured (declared_types calls) (are_declared calls)).parameters target in
+            let passed = has.edges branch edge leads to in
+            let none : has.complete ≡ [] = none_complete has.complete (λ some. true_no_false (sym (has.several some).0 ∙ unsealed)) in
+            none_there (carries.own.passed branch edge) passed.values place argument
+            (for_none f passed.values (subst (AreFor f passed.values) none passed.are_for))
+            (ap (λ (args : List BlockArg). slice_get args (length (carries.own.passed branch edge) + place)) (sym passed.in_order) ∙ passes)
+
         home : param_home f parameter ≡ Some target
         home =
             stands_home f consistent parameter target (
@@ -359,7 +386,12 @@ module _ (calls : List AnsweredCall) (f : Body) (s : SsaState) (consistent : IsC
 
         is_complete : (x : ℕ) × (function.definition parameter ≡ record { home = front target; kind = complete x })
         is_complete =
-            IntoBlock.parameter_complete calls f s consistent carries target (finished.none_waits target) parameter home (omega (arith, place_is))
+            IntoBlock.parameter_complete calls f s consistent carries target (by (is_yes (sealed_of s target)) refl) parameter home (omega (arith, place_is))
+          where
+            -- an edge into an unsealed block passes what the caller passed alone
+            by : (t : Bool) → is_yes (sealed_of s target) ≡ t → pending_of (sealed_of s target) ≡ []
+            by true is = sealed_none (sealed_of s target) is
+            by false is = absurd (passes_no_more is)
 
         abbrev arm : Arm
         arm = record { source = last_place carries.tables (branch_block f branch); target = front target; edge = edge }
@@ -414,8 +446,8 @@ means_tracked calls f s width consistent carries finished marks hidden world fit
     let targets = premises.targets_filled in
     let all : Whole calls f s = Assembly.all calls f s consistent carries targets in
     Assembly.means_moving calls f s width consistent carries finished (is_marked (ledger_after (script_of calls))) (is_tracked (script_of calls))
-    (λ v. has (recorded_of s.tracking) v) hidden (names_agree calls f s consistent all finished marks apart)
+    (λ v. has (recorded_of s.tracking) v) hidden (names_agree calls f s consistent all marks apart)
     (subst (λ (own : Own). ValuesAgree calls own f s (is_tracked (script_of calls)) (λ v. has (recorded_of s.tracking) v))
     (Assembly.own_is calls f s consistent carries targets)
-    (values_agree calls f s consistent all finished marks apart))
+    (values_agree calls f s consistent all marks apart))
     world fits premises

@@ -45,7 +45,7 @@ use Rattle.clif_simulation.proofs.Unfinished.ComingCode.{given_so_far, nothing_c
 use Rattle.clif_meaning.proofs.StraightLine.{none_of}
 use Rattle.clif_meaning.specs.Ledger.{ledger_after}
 use Rattle.clif_simulation.proofs.Finished.Agreement.{Agrees, NothingIsZero, ZerosAreZero, given_agrees, given_nothing, name_bits, unlabelled_variable, zeros_agree}
-use Rattle.clif_simulation.proofs.Labelling.Labelled.{MovesBy, labelled, labelled_value}
+use Rattle.clif_simulation.proofs.Labelling.Labelled.{labelled, labelled_value}
 use Rattle.clif_simulation.proofs.Unfinished.Counted.{gives_results, terminator_gives_none}
 use Rattle.clif_simulation.proofs.Finished.Entry.{begins as starts_first, resolved_twice}
 use Rattle.clif_simulation.proofs.Finished.Fronts.{HasFront, has_front, placed_inst}
@@ -54,6 +54,7 @@ use Rattle.clif_simulation.proofs.Listed.{place_within}
 use Rattle.clif_simulation.proofs.Finished.Matching.{item_here, nothing_behind, rest_behind}
 use Rattle.clif_simulation.proofs.Unfinished.OpenArms
 use Rattle.clif_simulation.proofs.Labelling.Labels.{Labels}
+use Rattle.clif_simulation.proofs.Unfinished.OpenCalls.{CallsKeep, calls_keep}
 use Rattle.clif_simulation.proofs.Unfinished.OpenEdges
 use Rattle.clif_simulation.proofs.Unfinished.OpenFlow
 use Rattle.clif_simulation.proofs.Unfinished.OpenStanding
@@ -123,7 +124,7 @@ module _ (calls : List AnsweredCall) (f : Body) (ssa : SsaState) (consistent : I
 module _ (coming : Coming) (arrivals : Arrivals) (calls : List AnsweredCall) (signature : SignatureShape) (f : Body) (ssa : SsaState) (consistent : IsConsistent f) (carries : Whole calls f ssa)
     (width : PointerWidth) (world : World) (tracked : Name → Bool) (collector : Collector)
     (labels : Labels (OpenEdges.program calls f ssa consistent carries) (OpenEdges.function calls f ssa consistent carries))
-    (growing : Name → Bool) (are_open : AreOpen calls f ssa growing) (fits : IsWorldOf signature (view_of f) width world) (typed : WellTypedSoFar growing (ledger_after (script_of calls)) (program_so_far calls) signature) (may : MayCome coming calls ssa) (moves : MovesBy calls f tracked collector (OpenEdges.program calls f ssa consistent carries) (OpenEdges.function calls f ssa consistent carries) labels)
+    (growing : Name → Bool) (are_open : AreOpen calls f ssa growing) (fits : IsWorldOf signature (view_of f) width world) (typed : WellTypedSoFar growing (ledger_after (script_of calls)) (program_so_far calls) signature) (may : MayCome coming calls ssa) (keeps : CallsKeep coming calls f ssa consistent carries world tracked collector labels)
     (entry : ℕ) (entry_name : Name) (entry_named : block_name calls entry ≡ Some entry_name) (is_entry : (program_so_far calls).entry ≡ Some entry_name)
     (unknowns : Unknowns)
   where
@@ -198,7 +199,7 @@ module _ (coming : Coming) (arrivals : Arrivals) (calls : List AnsweredCall) (si
       before_end : (place : ℕ) (instruction : Instruction Name Name) (results : List Name) (stands : slice_get (items B) k ≡ Some (Instruct place instruction results)) → results ≡ []
           → Agrees live program function labels (next_arm b k ∷ path) p.variables p.names q.values × NothingIsZero program (next_arm b k ∷ path) p.variables p.names
       before_end place instruction results stands none =
-          let gives = OpenStepping.gives_there coming arrivals calls f ssa consistent carries width world tracked collector labels unknowns entry entry_name growing are_open signature may typed moves
+          let gives = OpenStepping.gives_there coming arrivals calls f ssa consistent carries width world tracked collector labels unknowns entry entry_name growing are_open signature may typed keeps
           b B r.named k place instruction results stands path in (
             subst₂ (λ (names : Name → ℕ) (values : ℕ → ℕ). Agrees live program function labels (next_arm b k ∷ path) p.variables names values)
                 (nothing_assigned same_name results p.names) (nothing_assigned same_value (map (answered calls) results) q.values)
@@ -217,7 +218,7 @@ module _ (coming : Coming) (arrivals : Arrivals) (calls : List AnsweredCall) (si
           let last : length (items B) ≤ suc k = nothing_behind (items B) (suc k) (rest_behind (items B) k (Instruct place instruction results) ahead here ∙ at_end.1) in
           let none : results ≡ [] = gives_results (script_of calls) B k (Instruct place instruction results) stands ∙ terminator_gives_none place instruction at_end.0 in
           recorded_bits (next_arm b k ∷ path) (suc k)
-          (OpenStepping.goes_on coming arrivals calls f ssa consistent carries width world tracked collector labels unknowns entry entry_name growing are_open signature may typed moves
+          (OpenStepping.goes_on coming arrivals calls f ssa consistent carries width world tracked collector labels unknowns entry entry_name growing are_open signature may typed keeps
           b B r.named k path (Instruct place instruction results) stands r.follows r.ends)
           refl (omega (arith, last, place_within (items B) k (Instruct place instruction results) stands)) (before_end place instruction results stands none).0 (before_end place instruction results stands none).1
       records_alike (Use y used ∷ ahead) here at_end = absurd at_end
@@ -347,7 +348,7 @@ module _ (coming : Coming) (arrivals : Arrivals) (calls : List AnsweredCall) (si
     met (suc n) rest on =
         let before = went_on (state_after left_machine n) (state_after left_machine n).state.control refl rest on in
         let now : IsMet n = met n before.0 before.1 in
-        let more = OpenStepping.step coming arrivals calls f ssa consistent carries width world tracked collector labels unknowns entry entry_name growing are_open signature may typed moves
+        let more = OpenStepping.step coming arrivals calls f ssa consistent carries width world tracked collector labels unknowns entry entry_name growing are_open signature may typed keeps
         (state_after left_machine n) (state_after right_machine now.0) now.1 rest on in
         later (state_after left_machine (suc n)) now.0 more.0 more.1
 
@@ -359,7 +360,8 @@ pub reads_right_coming : (calls : List AnsweredCall) (signature : SignatureShape
 reads_right_coming calls signature f ssa growing consistent carries are_open width world tracked collector coming fits typed may free moves block name named is_entry unknowns arrivals =
     let both : Whole calls f ssa = whole calls f ssa consistent carries free in
     let moving = labelled calls f ssa consistent both tracked collector moves in
-    beside coming arrivals calls signature f ssa consistent both width world tracked collector moving.0 growing are_open fits typed may moving.1 block name named is_entry unknowns
+    beside coming arrivals calls signature f ssa consistent both width world tracked collector moving.0 growing are_open fits typed may
+    (calls_keep coming calls f ssa consistent both world tracked collector moving.0 moving.1) block name named is_entry unknowns
 
 -- where no edge may come
 may_nothing : (calls : List AnsweredCall) (ssa : SsaState) → IsWellPlaced (program_code (program_so_far calls)) → MayCome nothing_comes calls ssa

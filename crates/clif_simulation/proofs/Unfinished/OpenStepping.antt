@@ -53,6 +53,7 @@ use Rattle.clif_simulation.proofs.Listed.{place_within}
 use Rattle.clif_simulation.proofs.Finished.Matching.{first_is, rest_is, item_here, rest_behind, same_bits, IsPlain, item_plain, outcome_plain, same_outcomes}
 use Rattle.clif_simulation.proofs.Unfinished.OpenArms
 use Rattle.clif_simulation.proofs.Labelling.Labels.{Labels}
+use Rattle.clif_simulation.proofs.Unfinished.OpenCalls.{AgreeOn, CallsKeep, KeepAgreement}
 use Rattle.clif_simulation.proofs.Unfinished.OpenEdges
 use Rattle.clif_simulation.proofs.Unfinished.OpenFlow
 use Rattle.clif_simulation.proofs.Unfinished.ComingStep
@@ -62,8 +63,7 @@ use Rattle.clif_simulation.proofs.Finished.OwnEdges
 use Rattle.clif_simulation.proofs.Finished.OwnEdges.{last_item}
 use Rattle.clif_simulation.proofs.Finished.Placing.{at_second, contained, map_at, placed_item}
 use Rattle.clif_simulation.proofs.Finished.Stepping.{edge_passes, function_along, none_passed, same_arguments, script_along, some_passed}
-use Rattle.clif_simulation.proofs.Labelling.Labelled.{MovesBy, MovesLabelled, labelled_value}
-use Rattle.clif_simulation.proofs.Labelling.Moved
+use Rattle.clif_simulation.proofs.Labelling.Labelled.{labelled_value}
 use Rattle.clif_simulation.proofs.Labelling.Outside
 use Rattle.clif_simulation.proofs.Finished.Straight.{next_arm}
 use Rattle.clif_simulation.proofs.Finished.OperandTypes.{outcomes_alike_so_far}
@@ -88,7 +88,7 @@ module _ (coming : Coming) (arrivals : Arrivals) (calls : List AnsweredCall) (f 
     (width : PointerWidth) (world : World) (tracked : Name → Bool) (collector : Collector)
     (labels : Labels (OpenEdges.program calls f ssa consistent carries) (OpenEdges.function calls f ssa consistent carries)) (unknowns : Unknowns) (entry : ℕ) (entry_name : Name)
     (growing : Name → Bool) (are_open : AreOpen calls f ssa growing) (signature : SignatureShape) (may : MayCome coming calls ssa)
-    (typed : WellTypedSoFar growing (ledger_after (script_of calls)) (program_so_far calls) signature) (moves : MovesBy calls f tracked collector (OpenEdges.program calls f ssa consistent carries) (OpenEdges.function calls f ssa consistent carries) labels)
+    (typed : WellTypedSoFar growing (ledger_after (script_of calls)) (program_so_far calls) signature) (keeps : CallsKeep coming calls f ssa consistent carries world tracked collector labels)
   where
     abbrev left_run : ScriptRun
     left_run = OpenStanding.left_run coming arrivals calls f ssa consistent carries width world tracked collector labels unknowns entry entry_name
@@ -545,10 +545,10 @@ module _ (coming : Coming) (arrivals : Arrivals) (calls : List AnsweredCall) (f 
     -- An outside call -----------------------------------------------------------------------------------------------------
 
     module _ (a : ScriptStanding) (c : FunctionStanding) (b : ℕ) (B : Name) (k : ℕ) (path : Path) (place_is : a.place ≡ behind B k) (entries : a.entries ≡ c.entries) where
-      -- Both show the same event and get the same answer, and move what has a label.
+      -- Both show the same event and get the same answer, and still agree.
       module _ (place : ℕ) (instruction : Instruction Name Name) (results : List Name) (rest : List Item) (i : ℕ) (left : List ℕ)
           (r : Stands b B k (Instruct place instruction results ∷ rest) (i ∷ left) path a.state c.state)
-          (moving : MovesLabelled calls f tracked collector program function labels) (callee : Callee) (call : CallShape) (arguments : List Bits)
+          (keep : KeepAgreement coming calls f ssa consistent carries world tracked collector labels) (callee : Callee) (call : CallShape) (arguments : List Bits)
         where
           abbrev p' : ScriptState
           p' = script.call_outside left_run a.state callee call arguments
@@ -577,23 +577,10 @@ module _ (coming : Coming) (arrivals : Arrivals) (calls : List AnsweredCall) (f 
           memory_is : p'.memory ≡ q'.memory
           memory_is = Outside.memory_is left_run f collector a.state c.state r.same_memory r.same_events (placed_inst f i).stack_map no_map callee call arguments
 
-          agrees_behind_call : Agrees live program function labels path p'.variables p'.names q'.values
-          agrees_behind_call =
-              Moved.agrees_behind calls f world tracked collector a.state c.state r.same_memory r.same_events (placed_inst f i).stack_map no_map callee call arguments
-              program function labels moving live path a.state.names c.state.values r.agrees r.zeros.held p'.names q'.values
-              (Moved.name_is calls f world tracked collector a.state c.state r.same_memory r.same_events (placed_inst f i).stack_map no_map callee call arguments program function labels moving)
-              (Moved.value_is calls f world tracked collector a.state c.state r.same_memory r.same_events (placed_inst f i).stack_map no_map callee call arguments program function labels moving)
-
-          zeros_behind_call : ZerosAreZero program function path p'.variables p'.names q'.values
-          zeros_behind_call = record {
-            held = Moved.nothing_behind calls f world tracked collector a.state c.state r.same_memory r.same_events (placed_inst f i).stack_map no_map callee call arguments
-                program function labels moving live path a.state.names c.state.values r.agrees r.zeros.held p'.names
-                (Moved.name_is calls f world tracked collector a.state c.state r.same_memory r.same_events (placed_inst f i).stack_map no_map callee call arguments program function labels moving);
-            of_value = λ w blank.
-                Moved.value_is calls f world tracked collector a.state c.state r.same_memory r.same_events (placed_inst f i).stack_map no_map callee call arguments program function labels moving w
-                ∙ Moved.zero_value calls f world tracked collector a.state c.state r.same_memory r.same_events (placed_inst f i).stack_map no_map callee call arguments program function labels moving
-                c.state.values w (r.zeros.of_value w blank);
-          }
+          behind_call : AgreeOn coming calls f ssa consistent carries world tracked collector labels path p' q'
+          behind_call =
+              keep path r.follows a.state c.state r.same_memory r.same_events (placed_inst f i).stack_map no_map callee call arguments
+              (record { agrees = r.agrees; zeros = r.zeros })
 
           called : Stands b B k (Instruct place instruction results ∷ rest) (i ∷ left) path p' q'
           called = record {
@@ -609,8 +596,8 @@ module _ (coming : Coming) (arrivals : Arrivals) (calls : List AnsweredCall) (f 
             function_at = r.function_at;
             same_memory = memory_is;
             same_events = events_are;
-            agrees = agrees_behind_call;
-            zeros = zeros_behind_call;
+            agrees = behind_call.agrees;
+            zeros = behind_call.zeros;
           }
 
           abbrev takes : List (Edge ℕ ℕ) → Answer → FunctionState
@@ -713,11 +700,11 @@ module _ (coming : Coming) (arrivals : Arrivals) (calls : List AnsweredCall) (f 
             where
               other : ◌≡◌ {A = Control Item} (HasTrapped reason) (At ahead) → ⊥
               other h = cc
-          after_outcome (Calls callee call arguments) plain left_next right_next ahead on = by moves
+          after_outcome (Calls callee call arguments) plain left_next right_next ahead on = by keeps
             where
-              by : MovesBy calls f tracked collector program function labels → Comes (left_machine.next a) c
+              by : CallsKeep coming calls f ssa consistent carries world tracked collector labels → Comes (left_machine.next a) c
               by (inl none) = absurd (plain none)
-              by (inr moving) = call_step place instruction results rest i left r moving callee call arguments left_next right_next ahead on
+              by (inr keep) = call_step place instruction results rest i left r keep callee call arguments left_next right_next ahead on
           after_outcome NoStep plain left_next right_next ahead on = absurd (stuck_not_on ahead (sym (ap (λ (x : ScriptStanding). x.state.control) left_next) ∙ on))
 
           instruct_step : (ahead : List Item) → (left_machine.next a).state.control ≡ At ahead → Comes (left_machine.next a) c
