@@ -40,7 +40,7 @@ pub mod Finished
 -- An unfinished function that carries calls reads right: without branches, and beside interrupted runs with any.
 pub mod Unfinished
 -- Which names and values move at an outside call.
-mod Labelling
+pub mod Labelling
 -- What is recorded for stack maps.
 pub mod Tracking
 -- What the construction makes of parameters and edges, and that functions are well placed.

@@ -16,6 +16,7 @@ use Rattle.clif_simulation.specs.Interrupted.{ReadsRight}
 use Rattle.clif_simulation.specs.Coming.{ReadsRightComing}
 use Rattle.clif_builder.specs.Context.{ContextState}
 use Rattle.clif_builder.specs.StandsFor.{StandsIn}
+use Rattle.clif_standing_laws.specs.Marked.{ReadsRightMarked, ReadsRightMarkedComing, ReadsRightRecorded, ReadsRightRecordedComing}
 
 -- Where the parts of a builder stand for a list of calls, they read right on runs and bits, with any branches and parameters of
 -- the caller's: beside a run of the list's program that is interrupted at unsealed blocks, a run of the unfinished function has
@@ -54,3 +55,29 @@ StandingRecordsAreWellPlaced =
     (declared : SignatureShape) (calls : List AnsweredCall) (f : Body) (c : ContextState) (position : Option ℕ) (records : Records)
     → IsConsistent f → StandsIn declared calls f c position → EntryIsFree f c.ssa → IsWellPlaced (program_code (program_so_far calls))
     → AreRecords calls f c.ssa records → RecordsWellPlaced (view_of f) records
+
+-- Under marks: where what moves at outside calls agrees with the marks of the calls, they read right across such calls as well. So
+-- of a list with marked variables that are used and assigned, too.
+abbrev pub StandingReadsRightMarked : Type 0
+StandingReadsRightMarked =
+    (declared : SignatureShape) (calls : List AnsweredCall) (f : Body) (c : ContextState) (position : Option ℕ)
+    → IsConsistent f → (stands : StandsIn declared calls f c position)
+    → ReadsRightMarked (may_grow calls) calls stands.carries.own declared f c.ssa
+
+abbrev pub StandingReadsRightMarkedComing : Type 0
+StandingReadsRightMarkedComing =
+    (declared : SignatureShape) (calls : List AnsweredCall) (f : Body) (c : ContextState) (position : Option ℕ)
+    → IsConsistent f → (stands : StandsIn declared calls f c position)
+    → ReadsRightMarkedComing (may_grow calls) calls stands.carries.own declared f c.ssa
+
+-- What is recorded so far agrees with the marks of the calls. So under a collector over exactly that they read right, whatever calls
+-- ask stack maps for.
+abbrev pub StandingReadsRightRecorded : Type 0
+StandingReadsRightRecorded =
+    (declared : SignatureShape) (calls : List AnsweredCall) (f : Body) (c : ContextState) (position : Option ℕ)
+    → IsConsistent f → StandsIn declared calls f c position → ReadsRightRecorded (may_grow calls) calls declared f c.ssa
+
+abbrev pub StandingReadsRightRecordedComing : Type 0
+StandingReadsRightRecordedComing =
+    (declared : SignatureShape) (calls : List AnsweredCall) (f : Body) (c : ContextState) (position : Option ℕ)
+    → IsConsistent f → StandsIn declared calls f c position → ReadsRightRecordedComing (may_grow calls) calls declared f c.ssa

@@ -3,7 +3,7 @@
 //! and their contracts are the laws.
 #![tactic(auto)]
 
-ghost use Rattle.clif_standing_laws.specs.Laws.{StandingIsWellPlaced, StandingReadsRight, StandingReadsRightComing, StandingReadsRightFromAnywhere, StandingRecordsAreWellPlaced};
+ghost use Rattle.clif_standing_laws.specs.Laws.{StandingIsWellPlaced, StandingReadsRight, StandingReadsRightComing, StandingReadsRightFromAnywhere, StandingReadsRightMarked, StandingReadsRightMarkedComing, StandingReadsRightRecorded, StandingReadsRightRecordedComing, StandingRecordsAreWellPlaced};
 ghost use Rattle.clif_standing_laws.specs.MovingExamples.{MovingExamples};
 ghost use Rattle.clif_standing_laws.specs.RecordedExamples.{RecordedExamples};
 
@@ -22,6 +22,27 @@ pub fn standing_reads_right_coming()
 /// Where no branch was made, it has them from every pair of states at the front of an unsealed entry.
 pub fn standing_reads_right_from_anywhere()
     ensures { StandingReadsRightFromAnywhere }
+{}
+
+/// It has them across outside calls whatever variables are marked, where what both runs move agrees with the marks of the calls.
+pub fn standing_reads_right_marked()
+    ensures { StandingReadsRightMarked }
+{}
+
+/// So it has beside runs that also go along edges that may still come.
+pub fn standing_reads_right_marked_coming()
+    ensures { StandingReadsRightMarkedComing }
+{}
+
+/// What was recorded for stack maps so far agrees with the marks of the calls: so it has them under a collector over exactly that,
+/// beside the run of the list's program in which marked variables and tracked names move.
+pub fn standing_reads_right_recorded()
+    ensures { StandingReadsRightRecorded }
+{}
+
+/// So it has beside runs that also go along edges that may still come.
+pub fn standing_reads_right_recorded_coming()
+    ensures { StandingReadsRightRecordedComing }
 {}
 
 /// The values of the unfinished function of a builder that stands for a list of calls are defined before they are named, where

@@ -38,9 +38,9 @@ use Rattle.clif_meaning.specs.Headline.{IsWorldOf}
 use Rattle.clif_meaning.proofs.Stuttering.{steps_from, state_after-+}
 use Rattle.clif_simulation.specs.Tables.{code, answered, program_so_far, block_name}
 use Rattle.clif_simulation.specs.Carries.{as_passed, carried, own_placed, Carries}
-use Rattle.clif_simulation.specs.Reading.{behind, IsAtEnd, WellTypedSoFar}
-use Rattle.clif_simulation.specs.Interrupted.{Unknowns, ScriptStanding, FunctionStanding, script_edge, script_goes, script_enters, function_enters, variables_entering, values_entering, without_arguments, StandsBefore, StandsBesideIn, HasBesideIn, AreOpen, ReadsRightWhere}
-use Rattle.clif_simulation.specs.Coming.{Arrival, Arrivals, Coming, MayCome, ReadsRightComing, arrival_at, code_coming, script_comes}
+use Rattle.clif_simulation.specs.Reading.{behind, function_run_so_far, IsAtEnd, script_run_so_far, WellTypedSoFar}
+use Rattle.clif_simulation.specs.Interrupted.{Unknowns, ScriptStanding, FunctionStanding, script_edge, script_goes, script_enters, function_enters, variables_entering, values_entering, without_arguments, StandsBefore, StandsBesideIn, HasBesideIn, AreOpen, ReadsRightWhere, RunsBeside}
+use Rattle.clif_simulation.specs.Coming.{Arrival, Arrivals, Coming, MayCome, ReadsRightComing, RunsBesideComing, arrival_at, code_coming, script_comes}
 use Rattle.clif_simulation.proofs.Unfinished.ComingCode.{given_so_far, nothing_comes, placed_none}
 use Rattle.clif_meaning.proofs.StraightLine.{none_of}
 use Rattle.clif_meaning.specs.Ledger.{ledger_after}
@@ -364,18 +364,18 @@ reads_right_coming calls signature f ssa growing consistent carries are_open wid
     (calls_keep coming calls f ssa consistent both world tracked collector moving.0 moving.1) block name named is_entry unknowns
 
 -- where no edge may come
-may_nothing : (calls : List AnsweredCall) (ssa : SsaState) → IsWellPlaced (program_code (program_so_far calls)) → MayCome nothing_comes calls ssa
+pub may_nothing : (calls : List AnsweredCall) (ssa : SsaState) → IsWellPlaced (program_code (program_so_far calls)) → MayCome nothing_comes calls ssa
 may_nothing calls ssa placed = record {
   blocks = λ from target none. absurd (none_of [] target refl none);
   unsealed = λ from target none. absurd (none_of [] target refl none);
   given_before = placed_none calls placed;
 }
 
-pub reads_right : (calls : List AnsweredCall) (signature : SignatureShape) (f : Body) (ssa : SsaState) (growing : Name → Bool)
-    → IsConsistent f → Carries calls f ssa → AreOpen calls f ssa growing → ReadsRightWhere growing calls signature f ssa
-reads_right calls signature f ssa growing consistent carries are_open width world tracked collector fits premises free moves block name named is_entry unknowns n rest on =
-    let found = reads_right_coming calls signature f ssa growing consistent carries are_open width world tracked collector nothing_comes fits premises.well_typed
-    (may_nothing calls ssa premises.given_before) free moves block name named is_entry unknowns (λ entries. None) n rest on in
+-- what runs beside one along no such edges runs beside it in the code so far
+pub beside_so_far : (calls : List AnsweredCall) (f : Body) (ssa : SsaState) (left : ScriptRun) (right : FunctionRun) (block : ℕ) (name : Name)
+    → RunsBesideComing nothing_comes calls f ssa left right block name → RunsBeside calls f ssa left right block name
+beside_so_far calls f ssa left right block name runs unknowns n rest on =
+    let found = runs unknowns (λ entries. None) n rest on in
     record {
       block = found.block;
       named = found.named;
@@ -390,3 +390,10 @@ reads_right calls signature f ssa growing consistent carries are_open width worl
         records = found.beside.records;
       };
     }
+
+pub reads_right : (calls : List AnsweredCall) (signature : SignatureShape) (f : Body) (ssa : SsaState) (growing : Name → Bool)
+    → IsConsistent f → Carries calls f ssa → AreOpen calls f ssa growing → ReadsRightWhere growing calls signature f ssa
+reads_right calls signature f ssa growing consistent carries are_open width world tracked collector fits premises free moves block name named is_entry =
+    beside_so_far calls f ssa (script_run_so_far calls f world tracked) (function_run_so_far calls f world collector) block name
+    (reads_right_coming calls signature f ssa growing consistent carries are_open width world tracked collector nothing_comes fits premises.well_typed
+    (may_nothing calls ssa premises.given_before) free moves block name named is_entry)

@@ -1,0 +1,5 @@
+-- Unfinished functions under marks: what moves on both sides agrees.
+pub mod OpenSources
+pub mod OpenCalling
+pub mod MarkedReading
+pub mod RecordedReading

@@ -1,0 +1,9 @@
+use Rattle.clif_simulation.specs.Reading.{may_grow}
+use Rattle.clif_standing_laws.proofs.Marked.RecordedReading
+use Rattle.clif_standing_laws.proofs.StandingOpen.{are_open}
+use Rattle.clif_standing_laws.proofs.standing_reads_right_recorded_coming.Goals as goal
+
+pub returns : goal.returns
+returns c = λ declared calls f context position consistent stands.
+    RecordedReading.reads_right_coming calls declared f context.ssa (may_grow calls) consistent stands.carries (are_open declared calls f context position stands)
+    stands.ledger.tracks.marks
