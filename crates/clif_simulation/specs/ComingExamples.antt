@@ -1,6 +1,6 @@
 -- A worked example of the reading along edges that may still come: a block that only such an edge will reach. Beside runs along it
 -- the block reads right; with another constant there it doesn't, though no other run comes there. Own.
-use Rattle.std.specs.Prelude.{◌≡◌, ℕ, pos, if◌then◌else◌, List, [], ◌∷◌, Some, false}
+use Rattle.std.specs.Prelude.{◌≡◌, ℕ, pos, if◌then◌else◌, List, [], ◌∷◌, None, Some, false}
 use Rattle.clif_types.specs.declared.extname.UserFuncName.TheVariants.{Testcase}
 use Rattle.clif_instructions.specs.declared.insert_at.InsertAt.TheVariants.{Back}
 use Rattle.clif_instructions.specs.declared.instructions.InstructionData.TheVariants.{UnaryImm}
@@ -41,7 +41,7 @@ to_second from = if same_name from (block 0) then block 1 ∷ [] else []
 
 -- and a run goes there, with 9 in each byte of memory
 abbrev pub comes_there : Arrivals
-comes_there entries = Some (record { block = block 1; memory = λ address. 9; events = []; parameters = [] })
+comes_there entries = Some (record { block = block 1; memory = λ address. 9; events = []; parameters = []; call = None })
 
 pub record ComingExamples : Type 0 where
   pub carried : Carries second_calls (second_body 7) no_state

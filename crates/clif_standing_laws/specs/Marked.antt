@@ -21,7 +21,7 @@ use Rattle.clif_meaning.specs.Request.{AnsweredCall, script_of}
 use Rattle.clif_meaning.specs.Tracked.{is_tracked}
 use Rattle.clif_meaning.specs.View.{view_of}
 use Rattle.clif_meaning.specs.World.{World}
-use Rattle.clif_simulation.specs.Coming.{Coming, MayCome, RunsBesideComing}
+use Rattle.clif_simulation.specs.Coming.{Arrivals, Coming, MayCome, RunsBesideArriving}
 use Rattle.clif_simulation.specs.Interrupted.{RunsBeside}
 use Rattle.clif_simulation.specs.Marked.{NamesAgree, ValuesAgree}
 use Rattle.clif_simulation.specs.Reading.{PremisesSoFar, WellTypedSoFar, function_run_so_far, script_run_so_far}
@@ -51,14 +51,16 @@ ReadsRightMarked growing calls own signature f s =
     → (block : ℕ) (name : Name) → block_name calls block ≡ Some name → (program_so_far calls).entry ≡ Some name
     → RunsBeside calls f s (script_run_so_far calls f world tracked) (function_run_so_far calls f world collector) block name
 
--- and along each set of edges that may still come (`ReadsRightComing`)
+-- and along each set of edges that may still come (`ReadsRightComing`), those of outside calls among them: what moves behind such a
+-- call moves on both sides alike
 abbrev pub ReadsRightMarkedComing : (Name → Bool) → List AnsweredCall → Own → SignatureShape → Body → SsaState → Type 0
 ReadsRightMarkedComing growing calls own signature f s =
     (width : PointerWidth) (world : World) (tracked : Name → Bool) (collector : Collector) (coming : Coming)
     → IsWorldOf signature (view_of f) width world → WellTypedSoFar growing (ledger_after (script_of calls)) (program_so_far calls) signature
     → MayCome coming calls s → EntryIsFree f s → MovesAsMarked calls own f s tracked collector
     → (block : ℕ) (name : Name) → block_name calls block ≡ Some name → (program_so_far calls).entry ≡ Some name
-    → RunsBesideComing coming calls f s (script_run_so_far calls f world tracked) (function_run_so_far calls f world collector) block name
+    → (arrivals : Arrivals)
+    → RunsBesideArriving coming arrivals calls f s (script_run_so_far calls f world tracked) (function_run_so_far calls f world collector) block name
 
 -- the collector over exactly what is recorded so far
 abbrev pub over_recorded : SsaState → Collector
@@ -82,5 +84,6 @@ ReadsRightRecordedComing growing calls signature f s =
     → IsWorldOf signature (view_of f) width world → WellTypedSoFar growing (ledger_after (script_of calls)) (program_so_far calls) signature
     → MayCome coming calls s → EntryIsFree f s → KeepsApart calls
     → (block : ℕ) (name : Name) → block_name calls block ≡ Some name → (program_so_far calls).entry ≡ Some name
-    → RunsBesideComing coming calls f s (script_run_so_far calls f world (is_tracked (script_of calls)))
+    → (arrivals : Arrivals)
+    → RunsBesideArriving coming arrivals calls f s (script_run_so_far calls f world (is_tracked (script_of calls)))
     (function_run_so_far calls f world (over_recorded s)) block name

@@ -29,7 +29,7 @@ pub fn standing_reads_right_marked()
     ensures { StandingReadsRightMarked }
 {}
 
-/// So it has beside runs that also go along edges that may still come.
+/// It has them beside runs that also go along edges that may still come, those of outside calls among them.
 pub fn standing_reads_right_marked_coming()
     ensures { StandingReadsRightMarkedComing }
 {}
@@ -40,7 +40,7 @@ pub fn standing_reads_right_recorded()
     ensures { StandingReadsRightRecorded }
 {}
 
-/// So it has beside runs that also go along edges that may still come.
+/// It has them beside runs that also go along edges that may still come, those of outside calls among them.
 pub fn standing_reads_right_recorded_coming()
     ensures { StandingReadsRightRecordedComing }
 {}

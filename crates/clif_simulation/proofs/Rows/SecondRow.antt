@@ -30,7 +30,7 @@ use Rattle.clif_meaning.specs.Instruction.{Compute, Iconst}
 use Rattle.clif_meaning.specs.Program.{Item, Instruct}
 use Rattle.clif_simulation.specs.Tables.{answered, block_name, program_so_far}
 use Rattle.clif_simulation.specs.Reading.{behind, may_grow, script_run_so_far, WellTypedSoFar}
-use Rattle.clif_simulation.specs.Coming.{MayCome, ReadsRightComing, coming_script}
+use Rattle.clif_simulation.specs.Coming.{Arrival, MayCome, ReadsRightComing, coming_script}
 use Rattle.clif_simulation.specs.ComingExamples.{comes_there, to_second}
 use Rattle.clif_simulation.proofs.NameLists.{only_one, same_name_cases}
 use Rattle.clif_simulation.proofs.Unfinished.OpenReading
@@ -42,6 +42,7 @@ use Rattle.clif_meaning.specs.Path.{Place}
 use Rattle.clif_meaning.specs.WellPlaced.{item_at, item_names, item_passes}
 use Rattle.clif_meaning.specs.Premises.{EachItem, IsItemWellTyped}
 use Rattle.clif_tables.specs.Callees.{types_of}
+use Rattle.clif_meaning.specs.Event.{CallShape}
 use Rattle.clif_meaning.specs.FunctionMachine.{ByMaps}
 use Rattle.clif_meaning.specs.FunctionView.{Placed}
 use Rattle.clif_meaning.specs.Headline.{IsWorldOf}
@@ -242,5 +243,12 @@ refuted b control is at =
 pub other_constant : ReadsRightComing (may_grow second_calls) second_calls first_signature (second_body 8) no_state → ⊥
 other_constant reads =
     let found = reads U64 SampleWorld.sample_world (λ x. false) ByMaps to_second (fits 8) typed may_come (λ entry is sealed. refl)
-    (inl (nothing_called (script_of second_calls) refl)) 0 (block 0) refl refl (λ entries x. 0) comes_there 1 (constant ∷ []) refl in
+    (inl (nothing_called (script_of second_calls) refl)) 0 (block 0) refl refl comes_there (λ entries arrival is. branch arrival is) (λ entries x. 0) 1 (constant ∷ []) refl in
     refuted found.block _ (the_second found.block found.named) found.beside.function_at
+  where
+    branch : (arrival : Arrival) → comes_there 0 ≡ Some arrival → arrival.call ≡ None
+    branch arrival is = ap (λ (o : Option Arrival). call_of o) (sym is)
+      where
+        call_of : Option Arrival → Option CallShape
+        call_of None = None
+        call_of (Some a) = a.call

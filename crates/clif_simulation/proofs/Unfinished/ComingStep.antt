@@ -25,12 +25,13 @@ use Rattle.clif_meaning.specs.Path.{Place}
 use Rattle.clif_meaning.proofs.Stuttering.{steps_from}
 use Rattle.clif_simulation.specs.Tables.{answered, program_so_far, block_name}
 use Rattle.clif_simulation.specs.Reading.{behind}
-use Rattle.clif_simulation.specs.Coming.{Arrival, Arrivals, Coming, MayCome, arrival_at, script_arrived, script_comes, function_arrived, function_comes}
+use Rattle.clif_simulation.specs.Coming.{Arrival, Arrivals, Coming, MayCome, arrival_at, script_arrived, script_comes, script_moved, function_arrived, function_comes, function_moved}
 use Rattle.clif_simulation.specs.Interrupted.{Unknowns, ScriptStanding, FunctionStanding, script_edge, script_goes, script_enters, function_edge, function_goes, function_enters, variables_entering, values_entering}
 use Rattle.clif_simulation.proofs.Finished.Fronts.{steps_behind}
 use Rattle.clif_simulation.proofs.Finished.Matching.{nothing_behind}
 use Rattle.clif_simulation.proofs.Unfinished.OpenArms
 use Rattle.clif_simulation.proofs.Labelling.Labels.{Labels}
+use Rattle.clif_simulation.proofs.Unfinished.OpenCalls.{AgreeOn, ArrivalsKeep, arrival_keeps}
 use Rattle.clif_simulation.proofs.Unfinished.OpenEdges
 use Rattle.clif_simulation.proofs.Unfinished.OpenFlow
 use Rattle.clif_simulation.proofs.Unfinished.OpenFlow.{listed_name, name_listed}
@@ -57,7 +58,7 @@ no_instructions = At []
 module _ (coming : Coming) (arrivals : Arrivals) (calls : List AnsweredCall) (f : Body) (ssa : SsaState) (consistent : IsConsistent f) (carries : Whole calls f ssa)
     (width : PointerWidth) (world : World) (tracked : Name → Bool) (collector : Collector)
     (labels : Labels (OpenEdges.program calls f ssa consistent carries) (OpenEdges.function calls f ssa consistent carries)) (unknowns : Unknowns) (entry : ℕ) (entry_name : Name)
-    (may : MayCome coming calls ssa)
+    (may : MayCome coming calls ssa) (arrive : ArrivalsKeep coming calls f ssa consistent carries world tracked collector labels arrivals)
   where
     abbrev left_run : ScriptRun
     left_run = OpenStanding.left_run coming arrivals calls f ssa consistent carries width world tracked collector labels unknowns entry entry_name
@@ -87,7 +88,7 @@ module _ (coming : Coming) (arrivals : Arrivals) (calls : List AnsweredCall) (f 
     Comes = Gets coming arrivals calls f ssa consistent carries width world tracked collector labels unknowns entry entry_name
 
     module _ (a : ScriptStanding) (c : FunctionStanding) (b : ℕ) (B : Name) (k : ℕ) (path : Path) (place_is : a.place ≡ behind B k) (entries : a.entries ≡ c.entries) where
-      module _ (r : Stands b B k [] [] path a.state c.state) (arrival : Arrival) (listed : Contains (coming B) arrival.block) where
+      module _ (r : Stands b B k [] [] path a.state c.state) (arrival : Arrival) (listed : Contains (coming B) arrival.block) (is : arrivals a.entries ≡ Some arrival) where
         abbrev target : ℕ
         target = answered calls arrival.block
 
@@ -118,16 +119,28 @@ module _ (coming : Coming) (arrivals : Arrivals) (calls : List AnsweredCall) (f 
           r.follows,
         )
 
+        -- what an outside call moves has moved
+        abbrev moved_p : ScriptState
+        moved_p = script_moved left_run arrival.events arrival.call a.state
+
+        abbrev moved_q : FunctionState
+        moved_q = function_moved right_run arrival.events arrival.call c.state
+
+        agree_moved : AgreeOn coming calls f ssa consistent carries world tracked collector labels path moved_p moved_q
+        agree_moved =
+            arrival_keeps coming calls f ssa consistent carries world tracked collector labels arrivals arrive a.entries arrival is path r.follows a.state c.state
+            (record { agrees = r.agrees; zeros = r.zeros })
+
         abbrev p' : ScriptState
-        p' = script_arrived calls arrival a.state
+        p' = script_arrived calls left_run arrival a.state
 
         abbrev q' : FunctionState
         q' = function_arrived calls right_run arrival c.state
 
-        agree : OpenEdges.Goes calls f ssa consistent carries target arrival.block target_named labels (inside b k) 0 path c.state.values (unknowns a.entries) a.state.variables a.state.names r.agrees r.zeros arrival.parameters q'.values
+        agree : OpenEdges.Goes calls f ssa consistent carries target arrival.block target_named labels (inside b k) 0 path moved_q.values (unknowns a.entries) moved_p.variables moved_p.names agree_moved.agrees agree_moved.zeros arrival.parameters q'.values
             (variables_entering (is_yes (sealed_of ssa target)) (unknowns a.entries) p'.variables) (values_entering (pending_of (sealed_of ssa target)) (unknowns a.entries) q'.values)
         agree =
-            OpenEdges.enters calls f ssa consistent carries target arrival.block target_named labels (inside b k) 0 path c.state.values (unknowns a.entries) a.state.variables a.state.names r.agrees r.zeros arrival.parameters q'.values
+            OpenEdges.enters calls f ssa consistent carries target arrival.block target_named labels (inside b k) 0 path moved_q.values (unknowns a.entries) moved_p.variables moved_p.names agree_moved.agrees agree_moved.zeros arrival.parameters q'.values
             (λ is w other. refl) (λ is. absurd (not_both is unsealed))
 
         abbrev arrived : Comes (script_enters ssa unknowns target arrival.block a.entries p') (function_enters ssa unknowns target c.entries q')
@@ -151,11 +164,11 @@ module _ (coming : Coming) (arrivals : Arrivals) (calls : List AnsweredCall) (f 
         not_stuck : left_machine.next a ≡ stuck → (left_machine.next a).state.control ≡ At ahead → ⊥
         not_stuck is on = stuck_not_on ahead (sym (ap (λ (x : ScriptStanding). x.state.control) is) ∙ on)
 
-        left_is : (o : Option Arrival) → arrivals a.entries ≡ o → left_machine.next a ≡ script_comes coming calls ssa unknowns a (arrival_at o (nothing_left)) stuck
+        left_is : (o : Option Arrival) → arrivals a.entries ≡ o → left_machine.next a ≡ script_comes coming calls left_run ssa unknowns a (arrival_at o (nothing_left)) stuck
         left_is o is =
-            ap (λ (here : Control Item). script_comes coming calls ssa unknowns a (arrival_at (arrivals a.entries) here)
+            ap (λ (here : Control Item). script_comes coming calls left_run ssa unknowns a (arrival_at (arrivals a.entries) here)
             (script_goes calls ssa unknowns a (script_edge left_run a.state here) (script.step_at left_run a.state here))) r.script_at
-            ∙ ap (λ (found : Option Arrival). script_comes coming calls ssa unknowns a (arrival_at found (nothing_left)) stuck) is
+            ∙ ap (λ (found : Option Arrival). script_comes coming calls left_run ssa unknowns a (arrival_at found (nothing_left)) stuck) is
 
         right_is : (arrival : Arrival) → arrivals a.entries ≡ Some arrival
             → right_machine.next c ≡ function_enters ssa unknowns (answered calls arrival.block) c.entries (function_arrived calls right_run arrival c.state)
@@ -173,10 +186,10 @@ module _ (coming : Coming) (arrivals : Arrivals) (calls : List AnsweredCall) (f 
             by true found =
                 let listed : Contains (coming B) arrival.block =
                 listed_name arrival.block (coming B) (ap (λ (p : Place Name). list_any (same_name arrival.block) (coming p.block)) (sym place_is) ∙ found) in
-                comes r arrival listed
+                comes r arrival listed is
                 (left_is (Some arrival) is
-                ∙ ap (λ (test : Bool). if test then script_enters ssa unknowns (answered calls arrival.block) arrival.block a.entries (script_arrived calls arrival a.state) else stuck) found)
+                ∙ ap (λ (test : Bool). if test then script_enters ssa unknowns (answered calls arrival.block) arrival.block a.entries (script_arrived calls left_run arrival a.state) else stuck) found)
                 (right_is arrival is)
             by false other =
                 absurd (not_stuck (left_is (Some arrival) is
-                ∙ ap (λ (test : Bool). if test then script_enters ssa unknowns (answered calls arrival.block) arrival.block a.entries (script_arrived calls arrival a.state) else stuck) other) on)
+                ∙ ap (λ (test : Bool). if test then script_enters ssa unknowns (answered calls arrival.block) arrival.block a.entries (script_arrived calls left_run arrival a.state) else stuck) other) on)

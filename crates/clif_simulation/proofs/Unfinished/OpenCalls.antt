@@ -1,6 +1,6 @@
 -- What an outside call of an unfinished function has to keep: where both runs agree on a path, they agree behind the call. They do
 -- where both move what has a label.
-use Rattle.std.proofs.Common.{◌≡◌, ◌⊎◌, inl, inr, ℕ, Bool, List, [], ◌∙◌}
+use Rattle.std.proofs.Common.{◌≡◌, ◌⊎◌, inl, inr, ℕ, Bool, List, [], Option, Some, None, refl, sym, ◌∙◌}
 use Rattle.clif_types.specs.declared.stackmap.UserStackMapEntry.{UserStackMapEntry}
 use Rattle.clif_ir.specs.Body.{Body}
 use Rattle.clif_ir.specs.Consistent.{IsConsistent}
@@ -8,7 +8,7 @@ use Rattle.clif_paths.specs.Places.{Follows, Path}
 use Rattle.clif_paths.specs.State.{Function, Program}
 use Rattle.clif_ssa.specs.Ssa.{SsaState}
 use Rattle.clif_meaning.specs.Bits.{Bits}
-use Rattle.clif_meaning.specs.Event.{CallShape, Callee}
+use Rattle.clif_meaning.specs.Event.{CallShape, Callee, Event}
 use Rattle.clif_meaning.specs.Name.{Name}
 use Rattle.clif_meaning.specs.Premises.{EachItem}
 use Rattle.clif_meaning.specs.Request.{AnsweredCall}
@@ -18,7 +18,7 @@ use Rattle.clif_meaning.specs.ScriptMachine.{ScriptState}
 use Rattle.clif_meaning.specs.FunctionMachine as machine
 use Rattle.clif_meaning.specs.FunctionMachine.{Collector, FunctionState}
 use Rattle.clif_simulation.specs.Carries.{CallsNothing}
-use Rattle.clif_simulation.specs.Coming.{Coming}
+use Rattle.clif_simulation.specs.Coming.{AreBranches, Arrival, Arrivals, Coming, function_moved, script_moved}
 use Rattle.clif_simulation.specs.Reading.{function_run_so_far, script_run_so_far}
 use Rattle.clif_simulation.specs.Tables.{program_so_far}
 use Rattle.clif_simulation.proofs.Finished.Agreement.{Agrees, ZerosAreZero}
@@ -60,6 +60,34 @@ module _ (coming : Coming) (calls : List AnsweredCall) (f : Body) (ssa : SsaStat
     -- or nothing is called
     abbrev pub CallsKeep : Type 0
     CallsKeep = EachItem CallsNothing (program_so_far calls) ⊎ KeepAgreement
+
+    -- nor do edges that may come change that, where what an outside call moves has moved
+    abbrev pub KeepMoved : Type 0
+    KeepMoved =
+        (path : Path) → Follows (OpenFlow.edges coming calls f ssa consistent carries) path
+        → (events : List Event) (call : CallShape) (p : ScriptState) (q : FunctionState) → AgreeOn path p q
+        → AgreeOn path (script_moved (script_run_so_far calls f world tracked) events (Some call) p)
+        (function_moved (function_run_so_far calls f world collector) events (Some call) q)
+
+    -- or branches make them
+    abbrev pub ArrivalsKeep : Arrivals → Type 0
+    ArrivalsKeep arrivals = AreBranches arrivals ⊎ KeepMoved
+
+    pub arrival_keeps : (arrivals : Arrivals) → ArrivalsKeep arrivals → (entries : ℕ) (arrival : Arrival) → arrivals entries ≡ Some arrival
+        → (path : Path) → Follows (OpenFlow.edges coming calls f ssa consistent carries) path → (p : ScriptState) (q : FunctionState) → AgreeOn path p q
+        → AgreeOn path (script_moved (script_run_so_far calls f world tracked) arrival.events arrival.call p)
+        (function_moved (function_run_so_far calls f world collector) arrival.events arrival.call q)
+    arrival_keeps arrivals keeps entries arrival is path follows p q agree = by arrival.call refl keeps
+      where
+        by : (o : Option CallShape) → arrival.call ≡ o → ArrivalsKeep arrivals
+            → AgreeOn path (script_moved (script_run_so_far calls f world tracked) arrival.events o p)
+            (function_moved (function_run_so_far calls f world collector) arrival.events o q)
+        by None none keep = agree
+        by (Some call) some (inl branches) = absurd (none_some call (sym (branches entries arrival is) ∙ some))
+          where
+            none_some : (x : CallShape) → None ≡ Some x → ⊥
+            none_some x e = cc
+        by (Some call) some (inr keep) = keep path follows arrival.events call p q agree
 
     labelled_keep : MovesLabelled calls f tracked collector program function labels → KeepAgreement
     labelled_keep moving path follows p q same_memory same_events entries no_map callee call arguments agree =

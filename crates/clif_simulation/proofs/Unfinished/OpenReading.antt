@@ -40,7 +40,7 @@ use Rattle.clif_simulation.specs.Tables.{code, answered, program_so_far, block_n
 use Rattle.clif_simulation.specs.Carries.{as_passed, carried, own_placed, Carries}
 use Rattle.clif_simulation.specs.Reading.{behind, function_run_so_far, IsAtEnd, script_run_so_far, WellTypedSoFar}
 use Rattle.clif_simulation.specs.Interrupted.{Unknowns, ScriptStanding, FunctionStanding, script_edge, script_goes, script_enters, function_enters, variables_entering, values_entering, without_arguments, StandsBefore, StandsBesideIn, HasBesideIn, AreOpen, ReadsRightWhere, RunsBeside}
-use Rattle.clif_simulation.specs.Coming.{Arrival, Arrivals, Coming, MayCome, ReadsRightComing, RunsBesideComing, arrival_at, code_coming, script_comes}
+use Rattle.clif_simulation.specs.Coming.{Arrival, Arrivals, Coming, MayCome, ReadsRightComing, RunsBesideArriving, arrival_at, code_coming, script_comes}
 use Rattle.clif_simulation.proofs.Unfinished.ComingCode.{given_so_far, nothing_comes, placed_none}
 use Rattle.clif_meaning.proofs.StraightLine.{none_of}
 use Rattle.clif_meaning.specs.Ledger.{ledger_after}
@@ -54,7 +54,7 @@ use Rattle.clif_simulation.proofs.Listed.{place_within}
 use Rattle.clif_simulation.proofs.Finished.Matching.{item_here, nothing_behind, rest_behind}
 use Rattle.clif_simulation.proofs.Unfinished.OpenArms
 use Rattle.clif_simulation.proofs.Labelling.Labels.{Labels}
-use Rattle.clif_simulation.proofs.Unfinished.OpenCalls.{CallsKeep, calls_keep}
+use Rattle.clif_simulation.proofs.Unfinished.OpenCalls.{ArrivalsKeep, CallsKeep, calls_keep}
 use Rattle.clif_simulation.proofs.Unfinished.OpenEdges
 use Rattle.clif_simulation.proofs.Unfinished.OpenFlow
 use Rattle.clif_simulation.proofs.Unfinished.OpenStanding
@@ -124,7 +124,9 @@ module _ (calls : List AnsweredCall) (f : Body) (ssa : SsaState) (consistent : I
 module _ (coming : Coming) (arrivals : Arrivals) (calls : List AnsweredCall) (signature : SignatureShape) (f : Body) (ssa : SsaState) (consistent : IsConsistent f) (carries : Whole calls f ssa)
     (width : PointerWidth) (world : World) (tracked : Name → Bool) (collector : Collector)
     (labels : Labels (OpenEdges.program calls f ssa consistent carries) (OpenEdges.function calls f ssa consistent carries))
-    (growing : Name → Bool) (are_open : AreOpen calls f ssa growing) (fits : IsWorldOf signature (view_of f) width world) (typed : WellTypedSoFar growing (ledger_after (script_of calls)) (program_so_far calls) signature) (may : MayCome coming calls ssa) (keeps : CallsKeep coming calls f ssa consistent carries world tracked collector labels)
+    (growing : Name → Bool) (are_open : AreOpen calls f ssa growing) (fits : IsWorldOf signature (view_of f) width world) (typed : WellTypedSoFar growing (ledger_after (script_of calls)) (program_so_far calls) signature) (may : MayCome coming calls ssa)
+    (keeps : CallsKeep coming calls f ssa consistent carries world tracked collector labels)
+    (arrive : ArrivalsKeep coming calls f ssa consistent carries world tracked collector labels arrivals)
     (entry : ℕ) (entry_name : Name) (entry_named : block_name calls entry ≡ Some entry_name) (is_entry : (program_so_far calls).entry ≡ Some entry_name)
     (unknowns : Unknowns)
   where
@@ -199,7 +201,7 @@ module _ (coming : Coming) (arrivals : Arrivals) (calls : List AnsweredCall) (si
       before_end : (place : ℕ) (instruction : Instruction Name Name) (results : List Name) (stands : slice_get (items B) k ≡ Some (Instruct place instruction results)) → results ≡ []
           → Agrees live program function labels (next_arm b k ∷ path) p.variables p.names q.values × NothingIsZero program (next_arm b k ∷ path) p.variables p.names
       before_end place instruction results stands none =
-          let gives = OpenStepping.gives_there coming arrivals calls f ssa consistent carries width world tracked collector labels unknowns entry entry_name growing are_open signature may typed keeps
+          let gives = OpenStepping.gives_there coming arrivals calls f ssa consistent carries width world tracked collector labels unknowns entry entry_name growing are_open signature may typed keeps arrive
           b B r.named k place instruction results stands path in (
             subst₂ (λ (names : Name → ℕ) (values : ℕ → ℕ). Agrees live program function labels (next_arm b k ∷ path) p.variables names values)
                 (nothing_assigned same_name results p.names) (nothing_assigned same_value (map (answered calls) results) q.values)
@@ -218,7 +220,7 @@ module _ (coming : Coming) (arrivals : Arrivals) (calls : List AnsweredCall) (si
           let last : length (items B) ≤ suc k = nothing_behind (items B) (suc k) (rest_behind (items B) k (Instruct place instruction results) ahead here ∙ at_end.1) in
           let none : results ≡ [] = gives_results (script_of calls) B k (Instruct place instruction results) stands ∙ terminator_gives_none place instruction at_end.0 in
           recorded_bits (next_arm b k ∷ path) (suc k)
-          (OpenStepping.goes_on coming arrivals calls f ssa consistent carries width world tracked collector labels unknowns entry entry_name growing are_open signature may typed keeps
+          (OpenStepping.goes_on coming arrivals calls f ssa consistent carries width world tracked collector labels unknowns entry entry_name growing are_open signature may typed keeps arrive
           b B r.named k path (Instruct place instruction results) stands r.follows r.ends)
           refl (omega (arith, last, place_within (items B) k (Instruct place instruction results) stands)) (before_end place instruction results stands none).0 (before_end place instruction results stands none).1
       records_alike (Use y used ∷ ahead) here at_end = absurd at_end
@@ -303,9 +305,9 @@ module _ (coming : Coming) (arrivals : Arrivals) (calls : List AnsweredCall) (si
     stays : (a : ScriptStanding) (c : Control Item) → a.state.control ≡ c → ((o : Option Arrival) → arrival_at o c ≡ None)
         → left_machine.next a ≡ script_goes calls ssa unknowns a (script_edge left_run a.state c) (script.step_at left_run a.state c)
     stays a c is none =
-        ap (λ (here : Control Item). script_comes coming calls ssa unknowns a (arrival_at (arrivals a.entries) here)
+        ap (λ (here : Control Item). script_comes coming calls left_run ssa unknowns a (arrival_at (arrivals a.entries) here)
         (script_goes calls ssa unknowns a (script_edge left_run a.state here) (script.step_at left_run a.state here))) is
-        ∙ ap (λ (o : Option Arrival). script_comes coming calls ssa unknowns a o
+        ∙ ap (λ (o : Option Arrival). script_comes coming calls left_run ssa unknowns a o
         (script_goes calls ssa unknowns a (script_edge left_run a.state c) (script.step_at left_run a.state c))) (none (arrivals a.entries))
 
     -- a run that goes on went on before
@@ -348,7 +350,7 @@ module _ (coming : Coming) (arrivals : Arrivals) (calls : List AnsweredCall) (si
     met (suc n) rest on =
         let before = went_on (state_after left_machine n) (state_after left_machine n).state.control refl rest on in
         let now : IsMet n = met n before.0 before.1 in
-        let more = OpenStepping.step coming arrivals calls f ssa consistent carries width world tracked collector labels unknowns entry entry_name growing are_open signature may typed keeps
+        let more = OpenStepping.step coming arrivals calls f ssa consistent carries width world tracked collector labels unknowns entry entry_name growing are_open signature may typed keeps arrive
         (state_after left_machine n) (state_after right_machine now.0) now.1 rest on in
         later (state_after left_machine (suc n)) now.0 more.0 more.1
 
@@ -357,11 +359,11 @@ module _ (coming : Coming) (arrivals : Arrivals) (calls : List AnsweredCall) (si
 
 pub reads_right_coming : (calls : List AnsweredCall) (signature : SignatureShape) (f : Body) (ssa : SsaState) (growing : Name → Bool)
     → IsConsistent f → Carries calls f ssa → AreOpen calls f ssa growing → ReadsRightComing growing calls signature f ssa
-reads_right_coming calls signature f ssa growing consistent carries are_open width world tracked collector coming fits typed may free moves block name named is_entry unknowns arrivals =
+reads_right_coming calls signature f ssa growing consistent carries are_open width world tracked collector coming fits typed may free moves block name named is_entry arrivals branches unknowns =
     let both : Whole calls f ssa = whole calls f ssa consistent carries free in
     let moving = labelled calls f ssa consistent both tracked collector moves in
     beside coming arrivals calls signature f ssa consistent both width world tracked collector moving.0 growing are_open fits typed may
-    (calls_keep coming calls f ssa consistent both world tracked collector moving.0 moving.1) block name named is_entry unknowns
+    (calls_keep coming calls f ssa consistent both world tracked collector moving.0 moving.1) (inl branches) block name named is_entry unknowns
 
 -- where no edge may come
 pub may_nothing : (calls : List AnsweredCall) (ssa : SsaState) → IsWellPlaced (program_code (program_so_far calls)) → MayCome nothing_comes calls ssa
@@ -372,10 +374,10 @@ may_nothing calls ssa placed = record {
 }
 
 -- what runs beside one along no such edges runs beside it in the code so far
-pub beside_so_far : (calls : List AnsweredCall) (f : Body) (ssa : SsaState) (left : ScriptRun) (right : FunctionRun) (block : ℕ) (name : Name)
-    → RunsBesideComing nothing_comes calls f ssa left right block name → RunsBeside calls f ssa left right block name
-beside_so_far calls f ssa left right block name runs unknowns n rest on =
-    let found = runs unknowns (λ entries. None) n rest on in
+pub beside_none : (calls : List AnsweredCall) (f : Body) (ssa : SsaState) (left : ScriptRun) (right : FunctionRun) (block : ℕ) (name : Name)
+    → RunsBesideArriving nothing_comes (λ entries. None) calls f ssa left right block name → RunsBeside calls f ssa left right block name
+beside_none calls f ssa left right block name runs unknowns n rest on =
+    let found = runs unknowns n rest on in
     record {
       block = found.block;
       named = found.named;
@@ -391,9 +393,12 @@ beside_so_far calls f ssa left right block name runs unknowns n rest on =
       };
     }
 
+none_comes : (arrival : Arrival) → None ≡ Some arrival → arrival.call ≡ None
+none_comes arrival is = cc
+
 pub reads_right : (calls : List AnsweredCall) (signature : SignatureShape) (f : Body) (ssa : SsaState) (growing : Name → Bool)
     → IsConsistent f → Carries calls f ssa → AreOpen calls f ssa growing → ReadsRightWhere growing calls signature f ssa
 reads_right calls signature f ssa growing consistent carries are_open width world tracked collector fits premises free moves block name named is_entry =
-    beside_so_far calls f ssa (script_run_so_far calls f world tracked) (function_run_so_far calls f world collector) block name
+    beside_none calls f ssa (script_run_so_far calls f world tracked) (function_run_so_far calls f world collector) block name
     (reads_right_coming calls signature f ssa growing consistent carries are_open width world tracked collector nothing_comes fits premises.well_typed
-    (may_nothing calls ssa premises.given_before) free moves block name named is_entry)
+    (may_nothing calls ssa premises.given_before) free moves block name named is_entry (λ entries. None) (λ entries. none_comes))

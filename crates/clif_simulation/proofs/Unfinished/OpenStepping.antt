@@ -53,7 +53,7 @@ use Rattle.clif_simulation.proofs.Listed.{place_within}
 use Rattle.clif_simulation.proofs.Finished.Matching.{first_is, rest_is, item_here, rest_behind, same_bits, IsPlain, item_plain, outcome_plain, same_outcomes}
 use Rattle.clif_simulation.proofs.Unfinished.OpenArms
 use Rattle.clif_simulation.proofs.Labelling.Labels.{Labels}
-use Rattle.clif_simulation.proofs.Unfinished.OpenCalls.{AgreeOn, CallsKeep, KeepAgreement}
+use Rattle.clif_simulation.proofs.Unfinished.OpenCalls.{AgreeOn, ArrivalsKeep, CallsKeep, KeepAgreement}
 use Rattle.clif_simulation.proofs.Unfinished.OpenEdges
 use Rattle.clif_simulation.proofs.Unfinished.OpenFlow
 use Rattle.clif_simulation.proofs.Unfinished.ComingStep
@@ -88,7 +88,9 @@ module _ (coming : Coming) (arrivals : Arrivals) (calls : List AnsweredCall) (f 
     (width : PointerWidth) (world : World) (tracked : Name → Bool) (collector : Collector)
     (labels : Labels (OpenEdges.program calls f ssa consistent carries) (OpenEdges.function calls f ssa consistent carries)) (unknowns : Unknowns) (entry : ℕ) (entry_name : Name)
     (growing : Name → Bool) (are_open : AreOpen calls f ssa growing) (signature : SignatureShape) (may : MayCome coming calls ssa)
-    (typed : WellTypedSoFar growing (ledger_after (script_of calls)) (program_so_far calls) signature) (keeps : CallsKeep coming calls f ssa consistent carries world tracked collector labels)
+    (typed : WellTypedSoFar growing (ledger_after (script_of calls)) (program_so_far calls) signature)
+    (keeps : CallsKeep coming calls f ssa consistent carries world tracked collector labels)
+    (arrive : ArrivalsKeep coming calls f ssa consistent carries world tracked collector labels arrivals)
   where
     abbrev left_run : ScriptRun
     left_run = OpenStanding.left_run coming arrivals calls f ssa consistent carries width world tracked collector labels unknowns entry entry_name
@@ -131,9 +133,9 @@ module _ (coming : Coming) (arrivals : Arrivals) (calls : List AnsweredCall) (f 
     left_next : (a : ScriptStanding) (item : Item) (rest : List Item) → a.state.control ≡ At (item ∷ rest)
         → left_machine.next a ≡ script_goes calls ssa unknowns a (item_edge left_run a.state item) (script.run_item left_run a.state item rest)
     left_next a item rest at =
-        ap (λ (here : Control Item). script_comes coming calls ssa unknowns a (arrival_at (arrivals a.entries) here)
+        ap (λ (here : Control Item). script_comes coming calls left_run ssa unknowns a (arrival_at (arrivals a.entries) here)
         (script_goes calls ssa unknowns a (script_edge left_run a.state here) (script.step_at left_run a.state here))) at
-        ∙ ap (λ (o : Option Arrival). script_comes coming calls ssa unknowns a o
+        ∙ ap (λ (o : Option Arrival). script_comes coming calls left_run ssa unknowns a o
         (script_goes calls ssa unknowns a (item_edge left_run a.state item) (script.run_item left_run a.state item rest))) (not_at_thing (arrivals a.entries) item rest)
 
     right_next : (c : FunctionStanding) (thing : Placed) (rest : List Placed) → c.state.control ≡ At (thing ∷ rest)
@@ -713,7 +715,7 @@ module _ (coming : Coming) (arrivals : Arrivals) (calls : List AnsweredCall) (f 
       running_step : (rest : List Item) (left : List ℕ) → Stands b B k rest left path a.state c.state
           → (ahead : List Item) → (left_machine.next a).state.control ≡ At ahead → Comes (left_machine.next a) c
       running_step [] [] r ahead on =
-          ComingStep.arrives coming arrivals calls f ssa consistent carries width world tracked collector labels unknowns entry entry_name may a c b B k path place_is entries r ahead (arrivals a.entries) refl on
+          ComingStep.arrives coming arrivals calls f ssa consistent carries width world tracked collector labels unknowns entry entry_name may arrive a c b B k path place_is entries r ahead (arrivals a.entries) refl on
       running_step [] (i ∷ left) r ahead on = absurd (none (own_placed carries.own f i) (map (own_placed carries.own f) left) (sym r.left_is))
         where
           none : (x : Placed) (xs : List Placed) → [] ≡ (x ∷ xs) → ⊥

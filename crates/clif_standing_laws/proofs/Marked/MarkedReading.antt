@@ -1,5 +1,5 @@
 -- An unfinished function that carries a list of calls reads right under marks, where what moves on both sides agrees.
-use Rattle.std.proofs.Common.{◌≡◌, ℕ, inr, Bool, List, sym, subst}
+use Rattle.std.proofs.Common.{inr, Bool, List, None, sym, subst}
 use Rattle.clif_types.specs.Signature.{SignatureShape}
 use Rattle.clif_ir.specs.Body.{Body}
 use Rattle.clif_ir.specs.Consistent.{IsConsistent}
@@ -22,16 +22,17 @@ module _ (calls : List AnsweredCall) (signature : SignatureShape) (f : Body) (ss
     (carries : Carries calls f ssa) (are_open : AreOpen calls f ssa growing)
   where
     pub reads_right_coming : ReadsRightMarkedComing growing calls carries.own signature f ssa
-    reads_right_coming width world tracked collector coming fits typed may free moves block name named is_entry unknowns arrivals =
+    reads_right_coming width world tracked collector coming fits typed may free moves block name named is_entry arrivals unknowns =
         let both : Whole calls f ssa = whole calls f ssa consistent carries free in
         let moving : MovesAsMarked calls both.own f ssa tracked collector =
         subst (λ (own : Own). MovesAsMarked calls own f ssa tracked collector) (sym (whole_own calls f ssa consistent carries free)) moves in
         OpenReading.beside coming arrivals calls signature f ssa consistent both width world tracked collector
         (no_labels (OpenEdges.program calls f ssa consistent both) (OpenEdges.function calls f ssa consistent both)) growing are_open fits typed may
-        (inr (OpenCalling.keep coming calls f ssa consistent both may.given_before signature growing typed world tracked collector moving)) block name named is_entry unknowns
+        (inr (OpenCalling.keep coming calls f ssa consistent both may.given_before signature growing typed world tracked collector moving))
+        (inr (OpenCalling.keep_moved coming calls f ssa consistent both may.given_before signature growing typed world tracked collector moving)) block name named is_entry unknowns
 
     pub reads_right : ReadsRightMarked growing calls carries.own signature f ssa
     reads_right width world tracked collector fits premises free moves block name named is_entry =
-        OpenReading.beside_so_far calls f ssa (script_run_so_far calls f world tracked) (function_run_so_far calls f world collector) block name
+        OpenReading.beside_none calls f ssa (script_run_so_far calls f world tracked) (function_run_so_far calls f world collector) block name
         (reads_right_coming width world tracked collector nothing_comes fits premises.well_typed
-        (OpenReading.may_nothing calls ssa premises.given_before) free moves block name named is_entry)
+        (OpenReading.may_nothing calls ssa premises.given_before) free moves block name named is_entry (λ entries. None))

@@ -1,5 +1,5 @@
 -- An outside call of an unfinished function under marks: what moves on both sides agrees, so both runs still do.
-use Rattle.std.proofs.Common.{◌≡◌, ◌⊎◌, inl, inr, ℕ, Bool, true, false, List, [], refl, sym, ◌∙◌, ap, ap₂, subst}
+use Rattle.std.proofs.Common.{◌≡◌, ◌⊎◌, inl, inr, ℕ, Bool, true, false, List, [], Some, refl, sym, ◌∙◌, ap, ap₂, subst}
 use Rattle.clif_types.specs.declared.stackmap.UserStackMapEntry.{UserStackMapEntry}
 use Rattle.clif_types.specs.declared.types.«Type».{«Type»}
 use Rattle.clif_types.specs.Signature.{SignatureShape}
@@ -12,7 +12,7 @@ use Rattle.clif_ssa.specs.Ssa.{SsaState}
 use Rattle.clif_meaning.specs.Bits.{Bits}
 use Rattle.clif_meaning.specs.Event.{CallShape, Callee, Event}
 use Rattle.clif_meaning.specs.FunctionMachine as machine
-use Rattle.clif_meaning.specs.FunctionMachine.{Collector, FunctionRun, FunctionState}
+use Rattle.clif_meaning.specs.FunctionMachine.{Collector, ByMaps, OverSet, FunctionRun, FunctionState}
 use Rattle.clif_meaning.specs.Ledger.{is_marked, ledger_after}
 use Rattle.clif_meaning.specs.Name.{Name}
 use Rattle.clif_meaning.specs.Request.{AnsweredCall, script_of}
@@ -21,14 +21,14 @@ use Rattle.clif_meaning.specs.ScriptMachine.{ScriptRun, ScriptState}
 use Rattle.clif_meaning.specs.View.{view_of}
 use Rattle.clif_meaning.specs.WellPlaced.{IsWellPlaced}
 use Rattle.clif_meaning.specs.World.{World}
-use Rattle.clif_simulation.specs.Coming.{Coming, code_coming}
+use Rattle.clif_simulation.specs.Coming.{Coming, code_coming, function_moved, script_moved}
 use Rattle.clif_simulation.specs.Reading.{WellTypedSoFar, function_run_so_far, script_run_so_far}
 use Rattle.clif_simulation.specs.Tables.{code, program_so_far}
 use Rattle.clif_simulation.proofs.Finished.Agreement.{Agrees, ZerosAreZero}
 use Rattle.clif_simulation.proofs.Labelling.Labels.{IsNothing, Labels, no_labels}
 use Rattle.clif_simulation.proofs.Labelling.Outside
 use Rattle.clif_simulation.proofs.Labelling.Outside.{collects, moved_if}
-use Rattle.clif_simulation.proofs.Unfinished.OpenCalls.{AgreeOn, KeepAgreement}
+use Rattle.clif_simulation.proofs.Unfinished.OpenCalls.{AgreeOn, KeepAgreement, KeepMoved}
 use Rattle.clif_simulation.proofs.Unfinished.OpenEdges
 use Rattle.clif_simulation.proofs.Unfinished.OpenFlow
 use Rattle.clif_simulation.proofs.Whole.{Whole}
@@ -172,3 +172,23 @@ module _ (coming : Coming) (calls : List AnsweredCall) (f : Body) (s : SsaState)
 
     pub keep : KeepAgreement coming calls f s consistent carries world tracked collector labels
     keep = agree_behind
+
+    -- and where what an outside call moves has moved
+    pub keep_moved : KeepMoved coming calls f s consistent carries world tracked collector labels
+    keep_moved path follows events call p q agree =
+        let values_are : (w : ℕ) → (function_moved right_run events (Some call) q).values w ≡ values_moved events call q.values w =
+        λ w. collected_values collector w in
+        record {
+          agrees = agrees_moved events call path follows p.variables p.names q.values agree.agrees agree.zeros
+              (script_moved left_run events (Some call) p).variables (script_moved left_run events (Some call) p).names
+              (function_moved right_run events (Some call) q).values (λ x. refl) (λ n. refl) values_are;
+          zeros = zeros_moved events call path follows p.variables p.names q.values agree.agrees agree.zeros
+              (script_moved left_run events (Some call) p).variables (script_moved left_run events (Some call) p).names
+              (function_moved right_run events (Some call) q).values (λ x. refl) (λ n. refl) values_are;
+        }
+      where
+        collected_values : (other : Collector) (w : ℕ)
+            → machine.values_after right_run (world.moved events call) other q.values w
+            ≡ moved_if (collects f other w) (world.moved events call (value_types w) (q.values w)) (q.values w)
+        collected_values ByMaps w = refl
+        collected_values (OverSet members) w = refl
