@@ -3,3 +3,4 @@ pub mod OpenSources
 pub mod OpenCalling
 pub mod MarkedReading
 pub mod RecordedReading
+pub mod MarkedRow

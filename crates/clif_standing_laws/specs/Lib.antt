@@ -1,4 +1,5 @@
 pub mod Laws
 pub mod Marked
+pub mod MarkedExamples
 pub mod MovingExamples
 pub mod RecordedExamples

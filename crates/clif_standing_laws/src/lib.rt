@@ -4,6 +4,7 @@
 #![tactic(auto)]
 
 ghost use Rattle.clif_standing_laws.specs.Laws.{StandingIsWellPlaced, StandingReadsRight, StandingReadsRightComing, StandingReadsRightFromAnywhere, StandingReadsRightMarked, StandingReadsRightMarkedComing, StandingReadsRightRecorded, StandingReadsRightRecordedComing, StandingRecordsAreWellPlaced};
+ghost use Rattle.clif_standing_laws.specs.MarkedExamples.{MarkedExamples};
 ghost use Rattle.clif_standing_laws.specs.MovingExamples.{MovingExamples};
 ghost use Rattle.clif_standing_laws.specs.RecordedExamples.{RecordedExamples};
 
@@ -69,4 +70,11 @@ pub fn marked_parameter_moves()
 /// is marked, and else nothing: no other set is right.
 pub fn made_parameter_is_recorded()
     ensures { RecordedExamples }
+{}
+
+/// The unfinished function of that list up to its use reads right under a collector over what is recorded, in a world in which the
+/// parameter moves at the outside call; where the parameter isn't recorded it doesn't. The list meets no premise of the law on
+/// unmarked variables.
+pub fn marked_variable_reads_right()
+    ensures { MarkedExamples }
 {}

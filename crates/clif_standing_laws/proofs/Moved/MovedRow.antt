@@ -100,7 +100,7 @@ inserted_is_consistent =
     within zero below = omega arith
     within (suc k) below = absurd (omega (arith, below))
 
-called_is_consistent : IsConsistent moved_called
+pub called_is_consistent : IsConsistent moved_called
 called_is_consistent =
     with_inst_consistent (inserted_in moved_block 0) 0 Back (shape.Call 0 []) (i32 ∷ []) 0 inserted_is_consistent (omega arith) tt
     (λ k below. absurd (omega (arith, below))) (λ k d within. absurd (omega (arith, within))) (λ k d within. absurd (omega (arith, within)))
@@ -250,7 +250,7 @@ sealed =
 
 -- The variable is assigned and used ---------------------------------------------------------------------------------------
 
-records : Records sealed_state moved_state 0 0 0
+pub records : Records sealed_state moved_state 0 0 0
 records = record_at-insert map.empty 0 0 (record { value = Some 0; lookups = 0 })
 
 current : IsCurrent eight_calls 0 (block 0)
@@ -274,7 +274,7 @@ called =
     numbered (suc k) below = absurd (omega (arith, below))
 
 -- it is on record in the block, and nothing is constructed
-used : Carries eleven_calls moved_called moved_state
+pub used : Carries eleven_calls moved_called moved_state
 used =
     carries_used ten_calls moved_called moved_state called called_is_consistent 0 (block 0) (record { current = refl; named = refl }) refl
     moved_called moved_state 0 0 i64 refl

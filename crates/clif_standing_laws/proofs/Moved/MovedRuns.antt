@@ -21,7 +21,7 @@ use Rattle.clif_standing_laws.proofs.Moved.MovedPremises
 use Rattle.clif_standing_laws.proofs.Moved.MovedRow
 
 -- it passes 64, and adds 16 to what moves
-abbrev passing : World
+abbrev pub passing : World
 passing = record SampleWorld.sample_world { arguments = 64 ∷ [] }
 
 fits : IsWorldOf moved_signature (view_of moved_body) U64 passing
