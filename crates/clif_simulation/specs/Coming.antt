@@ -2,10 +2,11 @@
 -- names so far are given before their places whichever of these edges come. Along such an edge memory and events become any
 -- ones, alike on both sides, and so do the bits of the target's parameters of the caller's. So a block that only a coming branch
 -- will reach is read, too. A coming edge may be that of an outside call, and then the collector moves what it moves. Own.
-use Rattle.std.specs.Prelude.{◌≡◌, ℕ, false, Bool, List, [], map, Contains, Option, Some, None, if◌then◌else◌}
+use Rattle.std.specs.Prelude.{◌≡◌, ℕ, suc, false, Bool, List, [], map, Contains, Option, Some, None, if◌then◌else◌}
 use Rattle.std.specs.List.{list_any}
 use Rattle.clif_types.specs.Signature.{SignatureShape}
 use Rattle.clif_types.specs.declared.target.PointerWidth.{PointerWidth}
+use Rattle.clif_instructions.specs.Members.{stands_in}
 use Rattle.clif_ir.specs.Body.{Body}
 use Rattle.clif_ssa.specs.Sound.{EntryIsFree}
 use Rattle.clif_ssa.specs.Ssa.{SsaState, sealed_of}
@@ -22,8 +23,9 @@ use Rattle.clif_meaning.specs.Store.{assigned}
 use Rattle.clif_meaning.specs.Machine.{Machine, Control, At, Observation, state_after}
 use Rattle.clif_meaning.specs.ScriptMachine.{ScriptRun, ScriptState, script_machine}
 use Rattle.clif_meaning.specs.FunctionMachine.{Collector, FunctionRun, FunctionState, function_machine, same_value, values_after}
+use Rattle.clif_meaning.specs.FunctionView.{Placed}
 use Rattle.clif_meaning.specs.View.{view_of}
-use Rattle.clif_meaning.specs.WellPlaced.{Code, IsWellPlaced, item_at, item_targets, program_code}
+use Rattle.clif_meaning.specs.WellPlaced.{Code, IsWellPlaced, function_code, item_at, item_targets, placed_at, placed_targets, program_code}
 use Rattle.clif_meaning.specs.Headline.{IsWorldOf}
 use Rattle.clif_simulation.specs.Tables.{answered, block_name, program_so_far}
 use Rattle.clif_simulation.specs.Reading.{with_ends, MovesAlike, WellTypedSoFar, script_run_so_far, function_run_so_far}
@@ -164,3 +166,27 @@ ReadsRightComing growing calls signature f s =
     → MayCome coming calls s → EntryIsFree f s → MovesAlike calls tracked collector
     → (block : ℕ) (name : Name) → block_name calls block ≡ Some name → (program_so_far calls).entry ≡ Some name
     → RunsBesideComing coming calls f s (script_run_so_far calls f world tracked) (function_run_so_far calls f world collector) block name
+
+-- Placement ----------------------------------------------------------------------------------------------------------
+
+-- the blocks, by their numbers, that edges may still come to from the block with this name
+abbrev pub numbers_coming : Coming → List AnsweredCall → Option Name → List ℕ
+numbers_coming coming calls None = []
+numbers_coming coming calls (Some from) = map (answered calls) (coming from)
+
+-- the blocks that an instruction leads to, or at a block's end so far, where none stands, these
+abbrev pub placed_targets_with : List ℕ → Option Placed → List ℕ
+placed_targets_with coming None = coming
+placed_targets_with coming (Some placed) = placed_targets (Some placed)
+
+-- The code of an unfinished function with the edges that may still come: each block of the layout has one more place, its end so
+-- far, at which nothing stands yet, and from which these lead on.
+abbrev pub function_coming : Coming → List AnsweredCall → Body → Code ℕ ℕ
+function_coming coming calls f =
+    let code = function_code (view_of f) in
+    record code {
+      flow = record code.flow {
+        size = λ block. if stands_in block f.layout then suc (code.flow.size block) else 0;
+        targets = λ p. placed_targets_with (numbers_coming coming calls (block_name calls p.block)) (placed_at (view_of f) p);
+      };
+    }

@@ -13,7 +13,7 @@ use Rattle.clif_ssa.specs.Sound.{EntryIsFree}
 use Rattle.clif_simulation.specs.Structure.{AreRecords}
 use Rattle.clif_simulation.specs.Reading.{may_grow, ReadsRightFromAnywhere}
 use Rattle.clif_simulation.specs.Interrupted.{ReadsRight}
-use Rattle.clif_simulation.specs.Coming.{ReadsRightComing}
+use Rattle.clif_simulation.specs.Coming.{Coming, MayCome, ReadsRightComing, function_coming}
 use Rattle.clif_builder.specs.Context.{ContextState}
 use Rattle.clif_builder.specs.StandsFor.{StandsIn}
 use Rattle.clif_standing_laws.specs.Marked.{ReadsRightMarked, ReadsRightMarkedComing, ReadsRightRecorded, ReadsRightRecordedComing}
@@ -42,14 +42,22 @@ StandingReadsRightFromAnywhere =
     → IsConsistent f → StandsIn declared calls f c position → NothingLeads c.ssa → ReadsRightFromAnywhere calls declared f c.ssa
 
 -- Where the names of the list's program are given before they are named, and the entry is free (a branch may name it while it
--- is unsealed), the unfinished function's values are defined before they are named,
+-- is unsealed), the unfinished function's values are defined before they are named.
 abbrev pub StandingIsWellPlaced : Type 0
 StandingIsWellPlaced =
     (declared : SignatureShape) (calls : List AnsweredCall) (f : Body) (c : ContextState) (position : Option ℕ)
     → IsConsistent f → StandsIn declared calls f c position → EntryIsFree f c.ssa → IsWellPlaced (program_code (program_so_far calls))
     → WellPlaced (view_of f)
 
--- and so is what the builder recorded at the ends of its blocks, and what answered uses.
+-- They stay so when edges come that may still come, whichever of a set into unsealed blocks: on each path that goes along these, too,
+-- from the ends of blocks so far.
+abbrev pub StandingIsWellPlacedComing : Type 0
+StandingIsWellPlacedComing =
+    (declared : SignatureShape) (calls : List AnsweredCall) (f : Body) (c : ContextState) (position : Option ℕ) (coming : Coming)
+    → IsConsistent f → StandsIn declared calls f c position → EntryIsFree f c.ssa → MayCome coming calls c.ssa
+    → IsWellPlaced (function_coming coming calls f)
+
+-- As it is, what the builder recorded is defined before the ends of its blocks, and what answered uses before these.
 abbrev pub StandingRecordsAreWellPlaced : Type 0
 StandingRecordsAreWellPlaced =
     (declared : SignatureShape) (calls : List AnsweredCall) (f : Body) (c : ContextState) (position : Option ℕ) (records : Records)

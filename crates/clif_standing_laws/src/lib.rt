@@ -3,7 +3,7 @@
 //! and their contracts are the laws.
 #![tactic(auto)]
 
-ghost use Rattle.clif_standing_laws.specs.Laws.{StandingIsWellPlaced, StandingReadsRight, StandingReadsRightComing, StandingReadsRightFromAnywhere, StandingReadsRightMarked, StandingReadsRightMarkedComing, StandingReadsRightRecorded, StandingReadsRightRecordedComing, StandingRecordsAreWellPlaced};
+ghost use Rattle.clif_standing_laws.specs.Laws.{StandingIsWellPlaced, StandingIsWellPlacedComing, StandingReadsRight, StandingReadsRightComing, StandingReadsRightFromAnywhere, StandingReadsRightMarked, StandingReadsRightMarkedComing, StandingReadsRightRecorded, StandingReadsRightRecordedComing, StandingRecordsAreWellPlaced};
 ghost use Rattle.clif_standing_laws.specs.MarkedExamples.{MarkedExamples};
 ghost use Rattle.clif_standing_laws.specs.MovingExamples.{MovingExamples};
 ghost use Rattle.clif_standing_laws.specs.RecordedExamples.{RecordedExamples};
@@ -52,7 +52,12 @@ pub fn standing_is_well_placed()
     ensures { StandingIsWellPlaced }
 {}
 
-/// So is what the builder recorded, before the ends of its blocks, and what uses returned.
+/// They stay so along edges that may still come, whichever of a set into unsealed blocks, where the names of the list's program do.
+pub fn standing_is_well_placed_coming()
+    ensures { StandingIsWellPlacedComing }
+{}
+
+/// What the builder recorded is defined before the ends of its blocks, and what uses returned before these uses.
 pub fn standing_records_are_well_placed()
     ensures { StandingRecordsAreWellPlaced }
 {}

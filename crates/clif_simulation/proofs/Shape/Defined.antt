@@ -1,6 +1,6 @@
 -- A function that carries a list of calls is well placed, finished or not: names by the theory's conclusion on them, and what
 -- the construction passes by that on the arguments of parameters.
-use Rattle.std.proofs.Common.{◌≡◌, ◌⊎◌, ℕ, zero, suc, ◌+◌, ◌<◌, List, [], ◌∷◌, ◌++◌, length, map, flat_map, slice_get, Option, Some, Contains, inl, inr, refl, sym, ◌∙◌, ap, subst, arith}
+use Rattle.std.proofs.Common.{◌≡◌, ◌⊎◌, ℕ, zero, suc, ◌+◌, ◌<◌, List, [], ◌∷◌, ◌++◌, length, map, flat_map, slice_get, Option, None, Some, Contains, inl, inr, refl, sym, ◌∙◌, ap, subst, arith}
 use Rattle.std.specs.Prelude.{slice_index}
 use Rattle.std.proofs.lemmas.List.{append-nil, map-append}
 use Rattle.std.proofs.lemmas.Option.{slice_get_within, get_or_from_slice_get}
@@ -31,14 +31,15 @@ use Rattle.clif_meaning.specs.Program.{Item, Instruct}
 use Rattle.clif_meaning.specs.FunctionView.{Placed}
 use Rattle.clif_meaning.specs.View.{argument_of, edge_of, edges_of, items_of, placed_of, view_of}
 use Rattle.clif_meaning.specs.Path.{Place, IsPath, Leads}
-use Rattle.clif_meaning.specs.WellPlaced.{function_flow, known_argument, passed_operands, item_gives, item_passes, placed_names, placed_passes, placed_gives, program_code, IsGivenBefore, IsWellPlaced, WellPlaced}
+use Rattle.clif_meaning.specs.WellPlaced.{known_argument, passed_operands, item_gives, item_passes, placed_names, placed_passes, placed_gives, program_code, IsGivenBefore, IsWellPlaced, WellPlaced}
 use Rattle.clif_meaning.proofs.StraightLine.{none_of}
 use Rattle.clif_simulation.specs.Tables.{code, answered, program_so_far}
 use Rattle.clif_simulation.specs.Carries.{answered_argument}
+use Rattle.clif_simulation.specs.Coming.{Coming, MayCome, code_coming, function_coming}
 use Rattle.clif_simulation.proofs.Whole.{Whole}
 use Rattle.clif_simulation.proofs.Finished.ZeroInsts.{IsFromBefore, zeros_in_turn}
 use Rattle.clif_simulation.proofs.Shape.Beside
-use Rattle.clif_simulation.proofs.Unfinished.ComingCode.{given_none, nothing_comes, placed_none}
+use Rattle.clif_simulation.proofs.Unfinished.ComingCode.{may_nothing, nothing_comes}
 use Rattle.clif_simulation.proofs.Unfinished.OpenFlow
 use Rattle.clif_simulation.proofs.Finished.IntoBlock
 use Rattle.clif_simulation.proofs.Finished.Entry.{resolved_twice}
@@ -124,24 +125,32 @@ no_item (y ∷ xs) k x none is = cc
 same_value : (v w : ℕ) → Some (Value v) ≡ Some (Value w) → v ≡ w
 same_value v w h = cc
 
-module _ (calls : List AnsweredCall) (f : Body) (s : SsaState) (consistent : IsConsistent f) (carries : Whole calls f s)
-    (placed : IsWellPlaced (program_code (program_so_far calls)))
+-- where something is of a thing of a list, that stands there
+stands_there : {X : Type 0} (of : Option X → List ℕ) → of None ≡ [] → (xs : List X) (k x : ℕ) → Contains (of (slice_get xs k)) x → k < length xs
+stands_there {X} of none xs k x there = by (slice_get xs k) refl
+  where
+    by : (o : Option X) → slice_get xs k ≡ o → k < length xs
+    by None is = absurd (none_of (of (slice_get xs k)) x (ap of is ∙ none) there)
+    by (Some thing) is = place_within xs k thing is
+
+module _ (coming : Coming) (calls : List AnsweredCall) (f : Body) (s : SsaState) (consistent : IsConsistent f) (carries : Whole calls f s)
+    (may : MayCome coming calls s)
   where
     -- a path along the edges so far beside one of the function's places
     abbrev pub Stood : Place ℕ → List (Place ℕ) → Name → ℕ → ℕ → Type 0
-    Stood = Beside.IsBeside calls f s consistent carries
+    Stood = Beside.IsBeside coming calls f s consistent carries may
 
     abbrev pub AtOwn : Place ℕ → List (Place ℕ) → Name → Type 0
-    AtOwn = Beside.AtInstruct calls f s consistent carries
+    AtOwn = Beside.AtInstruct coming calls f s consistent carries may
 
     abbrev pub IsFor : Place ℕ → List (Place ℕ) → ℕ → Type 0
-    IsFor = Beside.IsGivenFor calls f s consistent carries
+    IsFor = Beside.IsGivenFor coming calls f s consistent carries may
 
     abbrev edges : Edges
-    edges = OpenFlow.edges nothing_comes calls f s consistent carries
+    edges = OpenFlow.edges coming calls f s consistent carries
 
     pub under : SoundUnder edges (state_of carries.tables)
-    under = OpenFlow.under nothing_comes calls f s consistent carries (placed_none calls placed)
+    under = OpenFlow.under coming calls f s consistent carries may.given_before
 
     -- What a path along the arms has come to ------------------------------------------------------------------------------------
 
@@ -152,7 +161,7 @@ module _ (calls : List AnsweredCall) (f : Body) (s : SsaState) (consistent : IsC
         by (b.given (resolved f v) (follow-inside f.values (length f.values) v (leads_inside f consistent) exists) (resolved_twice f v consistent)
         (subst (λ (w : ℕ). Visits (carries.tables.function.definition w).home b.along) (carries.describes.resolves v) visits))
       where
-        by : IsFor q path (resolved f v) ⊎ Beside.IsAhead calls f s consistent carries q 0 (resolved f v) → IsFor q path (resolved f v)
+        by : IsFor q path (resolved f v) ⊎ Beside.IsAhead coming calls f s consistent carries may q 0 (resolved f v) → IsFor q path (resolved f v)
         by (inl given) = given
         by (inr ahead) = absurd (omega (arith, ahead.from, ahead.below))
 
@@ -177,13 +186,13 @@ module _ (calls : List AnsweredCall) (f : Body) (s : SsaState) (consistent : IsC
         let same : values ≡ map (answered calls) named =
         ap (λ (p : Placed). named_operands p.instruction) a.is_item ∙ sym (map-append (answered calls) a.item.instruction.operands a.item.instruction.contexts) in
         let of_name = map_from (answered calls) named there.0 value.0 (ap (λ (vs : List ℕ). slice_get vs there.0) (sym same) ∙ value.1) in
-        let on = OpenFlow.named_before nothing_comes calls f s consistent carries (placed_none calls placed) a.is.along q.block a.j name a.is.follows a.is.ends a.is.named
+        let on = OpenFlow.named_before coming calls f s consistent carries may.given_before a.is.along q.block a.j name a.is.follows a.is.ends a.is.named
         (Instruct a.item.place a.item.instruction a.item.results) a.item.stands of_name.0 (contained named there.0 of_name.0 of_name.1) in
         subst (IsFor q path) (ap (resolved f) of_name.2 ∙ value.2) (answer_given q path name a.j a.is of_name.0 on)
 
     -- the operand of a step of a zero is given at the place before
-    zero_operand : (q : Place ℕ) (x : ℕ) (z : Beside.AtZero calls f s consistent carries q) → Contains (placed_names (resolved f) (slice_get (items_of f q.block) q.index)) x
-        → (path : List (Place ℕ)) → IsPath (function_flow (view_of f)) (q ∷ path) → IsFor q path x
+    zero_operand : (q : Place ℕ) (x : ℕ) (z : Beside.AtZero coming calls f s consistent carries may q) → Contains (placed_names (resolved f) (slice_get (items_of f q.block) q.index)) x
+        → (path : List (Place ℕ)) → IsPath (function_coming coming calls f).flow (q ∷ path) → IsFor q path x
     zero_operand q x z names path walk = by path walk
       where
         only_operands : operands (inst_at f z.i).shape ++ contexts (inst_at f z.i).shape ≡ operands (inst_at f z.i).shape
@@ -198,7 +207,7 @@ module _ (calls : List AnsweredCall) (f : Body) (s : SsaState) (consistent : IsC
         value : (v : ℕ) × (slice_get (operands (inst_at f z.i).shape) there.0 ≡ Some v) × (resolved f v ≡ x)
         value = map_from (resolved f) (operands (inst_at f z.i).shape) there.0 x there.1
 
-        from : IsFromBefore f (Beside.zeros_of calls f s consistent carries q.block) q.index value.0
+        from : IsFromBefore f (Beside.zeros_of coming calls f s consistent carries may q.block) q.index value.0
         from =
             zeros_in_turn f consistent carries.tables q.block (carries.describes.instructions q.block).zeros (carries.describes.instructions q.block).are_zeros
             q.index z.i there.0 value.0 z.stands value.1
@@ -208,21 +217,21 @@ module _ (calls : List AnsweredCall) (f : Body) (s : SsaState) (consistent : IsC
 
         gives : Contains (placed_gives (slice_get (items_of f q.block) from.before)) x
         gives =
-            let zeros : List ℕ = Beside.zeros_of calls f s consistent carries q.block in
-            let placed = Beside.placed_inst calls f s consistent carries in
+            let zeros : List ℕ = Beside.zeros_of coming calls f s consistent carries may q.block in
+            let placed = Beside.placed_inst coming calls f s consistent carries may in
             let within : from.before < length (map placed zeros) = let count = map_length placed zeros in omega (arith, place_within zeros from.before from.inst from.stands, count) in
             let stands : slice_get (items_of f q.block) from.before ≡ Some (placed_of f from.inst) =
-            ap (λ (ps : List Placed). slice_get ps from.before) (Beside.block_items calls f s consistent carries q.block z.inserted)
+            ap (λ (ps : List Placed). slice_get ps from.before) (Beside.block_items coming calls f s consistent carries may q.block z.inserted)
             ∙ at_first (map placed zeros) (map placed (carries.own.insts q.block)) from.before within
             ∙ map_at placed zeros from.before from.inst from.stands in
             subst (λ (o : Option Placed). Contains (placed_gives o) x) (sym stands)
             (contained (inst_at f from.inst).results 0 x (ap (λ (vs : List ℕ). slice_get vs 0) (from.gives ∙ ap (λ (v : ℕ). v ∷ []) same)))
 
-        by : (path : List (Place ℕ)) → IsPath (function_flow (view_of f)) (q ∷ path) → IsFor q path x
+        by : (path : List (Place ℕ)) → IsPath (function_coming coming calls f).flow (q ∷ path) → IsFor q path x
         by [] walk = absurd (omega (arith, walk.1.0, from.next))
         by (p ∷ path) walk = arrive walk.0
           where
-            arrive : Leads (function_flow (view_of f)) p q → IsFor q (p ∷ path) x
+            arrive : Leads (function_coming coming calls f).flow p q → IsFor q (p ∷ path) x
             arrive (inl next) =
                 let one : from.before ≡ p.index = omega (arith, next.1, from.next) in
                 inr (inl (subst (λ (b : ℕ). Contains (placed_gives (slice_get (items_of f b) p.index)) x) next.0
@@ -230,13 +239,13 @@ module _ (calls : List AnsweredCall) (f : Body) (s : SsaState) (consistent : IsC
             arrive (inr enters) = absurd (omega (arith, enters.1.0, from.next))
 
     named : (q : Place ℕ) (x : ℕ) → Contains (placed_names (resolved f) (slice_get (items_of f q.block) q.index)) x
-        → (path : List (Place ℕ)) → IsPath (function_flow (view_of f)) (q ∷ path) → IsFor q path x
+        → (path : List (Place ℕ)) → IsPath (function_coming coming calls f).flow (q ∷ path) → IsFor q path x
     named q x names path walk =
-        let standing = Beside.beside calls f s consistent carries path q walk in
-        by standing.name (Beside.what_stands calls f s consistent carries q path standing.name standing.k standing.left standing.is
-        (Beside.within calls f s consistent carries path q walk))
+        let standing = Beside.beside coming calls f s consistent carries may path q walk in
+        by standing.name (Beside.what_stands coming calls f s consistent carries may q path standing.name standing.k standing.left standing.is
+        (stands_there (placed_names (resolved f)) refl (items_of f q.block) q.index x names))
       where
-        by : (name : Name) → Beside.AtZero calls f s consistent carries q ⊎ AtOwn q path name → IsFor q path x
+        by : (name : Name) → Beside.AtZero coming calls f s consistent carries may q ⊎ AtOwn q path name → IsFor q path x
         by name (inl z) = zero_operand q x z names path walk
         by name (inr a) = operand_given q path name a x names
 
@@ -276,7 +285,7 @@ module _ (calls : List AnsweredCall) (f : Body) (s : SsaState) (consistent : IsC
       no_results : (inst_at f a.i).results ≡ []
       no_results = consistent.edges_without_results a.i (λ none. no_item (destinations (inst_at f a.i).shape) is.n is.call none is.stands)
 
-      gives_none : (r : ℕ) → Contains ((Beside.of_function calls f s consistent carries).gives q) r → ⊥
+      gives_none : (r : ℕ) → Contains ((Beside.of_function coming calls f s consistent carries may).gives q) r → ⊥
       gives_none r gives =
           none_of (placed_gives (slice_get (items_of f q.block) q.index)) r (ap placed_gives a.here ∙ no_results) gives
 
@@ -290,29 +299,28 @@ module _ (calls : List AnsweredCall) (f : Body) (s : SsaState) (consistent : IsC
       -- what the caller passed
       of_caller : slice_get (carries.own.passed a.i is.n) is.j ≡ Some (Value v) → IsFor q path (resolved f v)
       of_caller passes =
-          let edge = Beside.of_program calls f s consistent carries q path name a is.n is.call is.stands in
+          let edge = Beside.of_program coming calls f s consistent carries may q path name a is.n is.call is.stands in
           let there = OwnEdges.edge_in_function calls f s consistent carries a.i a.item.instruction a.item.results a.is_item is.n edge.0 edge.1 in
           let one = name_passed calls edge.0 (carries.own.passed a.i is.n) is.j v there.passed passes in
           let passed : Contains (item_passes (Some (Instruct a.item.place a.item.instruction a.item.results))) one.0 =
           edges_pass a.item.instruction is.n is.j edge.0 one.0 edge.1 one.1 in
           subst (λ (w : ℕ). IsFor q path (resolved f w)) one.2 (answer_given q path name a.j a.is one.0
-          (by one.0 (placed.passed (at_index name a.j) one.0 (subst (λ (o : Option Item). Contains (item_passes o) one.0) (sym a.item.stands) passed))))
+          (by one.0 (may.given_before.passed (at_index name a.j) one.0 (subst (λ (o : Option Item). Contains (item_passes o) one.0) (sym a.item.stands) passed))))
         where
-          by : (x : Name) → Contains (item_gives (slice_get ((program_so_far calls).items name) a.j)) x ⊎ IsGivenBefore (program_code (program_so_far calls)) x (at_index name a.j)
+          by : (x : Name) → Contains (item_gives (slice_get ((program_so_far calls).items name) a.j)) x ⊎ IsGivenBefore (code_coming coming calls) x (at_index name a.j)
               → IsGivenOn calls f s consistent carries a.is.along x
           by x (inl gives) =
               let results : (inst_at f a.i).results ≡ map (answered calls) a.item.results = ap (λ (p : Placed). p.results) a.is_item in
               absurd (none_of a.item.results x (none_mapped (answered calls) a.item.results (sym results ∙ no_results))
               (subst (λ (o : Option Item). Contains (item_gives o) x) a.item.stands gives))
           by x (inr before) =
-              OpenFlow.given_before nothing_comes calls f s consistent carries a.is.along q.block a.j name a.is.follows a.is.ends a.is.named x
-              (given_none calls x (at_index name a.j) (place_within ((program_so_far calls).items name) a.j (Instruct a.item.place a.item.instruction a.item.results) a.item.stands) before)
+              OpenFlow.given_before coming calls f s consistent carries a.is.along q.block a.j name a.is.follows a.is.ends a.is.named x before
 
       -- what belongs to a parameter of a variable
       of_variable : (m : ℕ) → is.j ≡ length (carries.own.passed a.i is.n) + m → IsFor q path (resolved f v)
       of_variable m behind =
-          let leads = Beside.leads calls f s consistent carries q path name a is.n is.call is.stands in
-          let to = Beside.to calls f s consistent carries q path name a is.n is.call is.stands in
+          let leads = Beside.leads coming calls f s consistent carries may q path name a is.n is.call is.stands in
+          let to = Beside.to coming calls f s consistent carries may q path name a is.n is.call is.stands in
           let place : ℕ = m + length (carries.own.params d) in
           let more = carries.counts.no_more d a.i is.n leads to in
           let count = ap (λ (o : Option BlockCall). length (args_of o)) is.stands in
@@ -325,8 +333,8 @@ module _ (calls : List AnsweredCall) (f : Body) (s : SsaState) (consistent : IsC
           let reached : place_of w (block_at f d).params + length (carries.own.passed a.i is.n) < passed_count f a.i is.n + length (carries.own.params d) =
           omega (arith, stands, behind, count, place_within is.call.args is.j (Value v) is.passes) in
           let (_, defined) = IntoBlock.passed_complete calls f s consistent carries d w home (omega (arith, stands)) a.i is.n counted reached in
-          let arm = Beside.arm calls f s consistent carries q path name a is.n is.call is.stands in
-          let into = Beside.into calls f s consistent carries q path name a is.n is.call is.stands in
+          let arm = Beside.arm coming calls f s consistent carries may q path name a is.n is.call is.stands in
+          let into = Beside.into coming calls f s consistent carries may q path name a is.n is.call is.stands in
           let passes : passed_at f a.i is.n is.j ≡ Some (Value (carries.tables.function.argument w arm)) =
           carries.describes.passes d w arm into defined refl is.j (omega (arith, behind, stands)) in
           let same : carries.tables.function.argument w arm ≡ v =
@@ -335,23 +343,23 @@ module _ (calls : List AnsweredCall) (f : Body) (s : SsaState) (consistent : IsC
           let definition : carries.tables.function.definition (carries.tables.function.resolve w) ≡ carries.tables.function.definition w = ap carries.tables.function.definition itself in
           let there : Dominates edges (home_of carries.tables.function (carries.tables.function.argument (carries.tables.function.resolve w) arm)) arm.source =
           under.arguments.at_source w arm (ap (λ (x : Definition). x.kind) (definition ∙ defined)) (ap (λ (x : Definition). x.home) (definition ∙ defined))
-          (Beside.known calls f s consistent carries q path name a is.n is.call is.stands) in
-          let visits = there.on_every_path (Beside.behind calls f s consistent carries q path name a is.n is.call is.stands)
-          (Beside.follows_behind calls f s consistent carries q path name a is.n is.call is.stands)
-          (ap (inside q.block) (Beside.is_last calls f s consistent carries q path name a is.n is.call is.stands)) in
+          (Beside.known coming calls f s consistent carries may q path name a is.n is.call is.stands) in
+          let visits = there.on_every_path (Beside.behind coming calls f s consistent carries may q path name a is.n is.call is.stands)
+          (Beside.follows_behind coming calls f s consistent carries may q path name a is.n is.call is.stands)
+          (ap (inside q.block) (Beside.is_last coming calls f s consistent carries may q path name a is.n is.call is.stands)) in
           by (subst (λ (u : ℕ). Visits (home_of carries.tables.function u) (next_arm q.block a.j ∷ a.is.along))
           (ap (λ (u : ℕ). carries.tables.function.argument u arm) itself ∙ same) visits)
         where
           by : Visits (home_of carries.tables.function v) (next_arm q.block a.j ∷ a.is.along) → IsFor q path (resolved f v)
           by (inl here) =
               absurd (gives_none (carries.tables.function.resolve v)
-              (Beside.gives_here calls f s consistent carries q path name a (carries.tables.function.resolve v) here))
+              (Beside.gives_here coming calls f s consistent carries may q path name a (carries.tables.function.resolve v) here))
           by (inr before) = value_given q path name a.j a.is v exists before
 
       argument_given : IsFor q path (resolved f v)
       argument_given =
-          let leads = Beside.leads calls f s consistent carries q path name a is.n is.call is.stands in
-          let to = Beside.to calls f s consistent carries q path name a is.n is.call is.stands in
+          let leads = Beside.leads coming calls f s consistent carries may q path name a is.n is.call is.stands in
+          let to = Beside.to coming calls f s consistent carries may q path name a is.n is.call is.stands in
           let own_first = carries.passes_first d a.i is.n leads to in
           let args : is.call.args ≡ carries.own.passed a.i is.n ++ own_first.0 = ap args_of (sym is.stands) ∙ own_first.1 in
           by own_first.0 (in_two (carries.own.passed a.i is.n) own_first.0 is.j (Value v) (ap (λ (xs : List BlockArg). slice_get xs is.j) (sym args) ∙ is.passes))
@@ -362,13 +370,13 @@ module _ (calls : List AnsweredCall) (f : Body) (s : SsaState) (consistent : IsC
           by more (inr second) = of_variable second.0 second.1
 
     passed : (q : Place ℕ) (x : ℕ) → Contains (placed_passes (resolved f) (slice_get (items_of f q.block) q.index)) x
-        → (path : List (Place ℕ)) → IsPath (function_flow (view_of f)) (q ∷ path) → IsFor q path x
+        → (path : List (Place ℕ)) → IsPath (function_coming coming calls f).flow (q ∷ path) → IsFor q path x
     passed q x passes path walk =
-        let standing = Beside.beside calls f s consistent carries path q walk in
-        by standing.name (Beside.what_stands calls f s consistent carries q path standing.name standing.k standing.left standing.is
-        (Beside.within calls f s consistent carries path q walk))
+        let standing = Beside.beside coming calls f s consistent carries may path q walk in
+        by standing.name (Beside.what_stands coming calls f s consistent carries may q path standing.name standing.k standing.left standing.is
+        (stands_there (placed_passes (resolved f)) refl (items_of f q.block) q.index x passes))
       where
-        by : (name : Name) → Beside.AtZero calls f s consistent carries q ⊎ AtOwn q path name → IsFor q path x
+        by : (name : Name) → Beside.AtZero coming calls f s consistent carries may q ⊎ AtOwn q path name → IsFor q path x
         by name (inl z) =
             let none : edges_of (inst_at f z.i).shape ≡ [] = ap (map edge_of) z.is_zero.no_edges in
             absurd (none_of (placed_passes (resolved f) (slice_get (items_of f q.block) q.index)) x
@@ -379,5 +387,16 @@ module _ (calls : List AnsweredCall) (f : Body) (s : SsaState) (consistent : IsC
             let value = map_from (resolved f) (passed_by a.i) there.0 x there.1 in
             subst (IsFor q path) value.2 (argument_given q path name a value.0 (is_passed a.i value.0 (contained (passed_by a.i) there.0 value.0 value.1)))
 
-    pub well_placed : WellPlaced (view_of f)
-    well_placed = record { named = named; passed = λ q x passes. inr (passed q x passes) }
+    pub well_placed_coming : IsWellPlaced (function_coming coming calls f)
+    well_placed_coming = record { named = named; passed = λ q x passes. inr (passed q x passes) }
+
+-- as it is, where no edge may come
+pub well_placed : (calls : List AnsweredCall) (f : Body) (s : SsaState) → IsConsistent f → Whole calls f s
+    → IsWellPlaced (program_code (program_so_far calls)) → WellPlaced (view_of f)
+well_placed calls f s consistent carries placed =
+    let may = may_nothing calls s placed in
+    record {
+      named = λ q x names path walk. named nothing_comes calls f s consistent carries may q x names path (Beside.more_paths nothing_comes calls f s consistent carries may path q walk);
+      passed = λ q x passes.
+          inr (λ path walk. passed nothing_comes calls f s consistent carries may q x passes path (Beside.more_paths nothing_comes calls f s consistent carries may path q walk));
+    }

@@ -1,6 +1,7 @@
 -- The code so far with edges that may still come: what it gives is what the program's code gives; and where no edge may come, its
 -- paths to items are the program's.
 use Rattle.std.proofs.Common.{◌≡◌, ℕ, zero, suc, ◌<◌, List, [], ◌∷◌, length, Option, Some, None, Contains, ◌⊎◌, inl, inr, refl, ap, subst, arith}
+use Rattle.clif_ssa.specs.Ssa.{SsaState}
 use Rattle.clif_meaning.specs.Name.{Name}
 use Rattle.clif_meaning.specs.Request.{AnsweredCall}
 use Rattle.clif_meaning.specs.Program.{Program, Item}
@@ -9,7 +10,7 @@ use Rattle.clif_meaning.specs.WellPlaced.{Code, IsGivenAlong, IsGivenBefore, IsW
 use Rattle.clif_meaning.proofs.StraightLine.{none_of}
 use Rattle.clif_simulation.specs.Tables.{program_so_far}
 use Rattle.clif_simulation.specs.Reading.{code_so_far}
-use Rattle.clif_simulation.specs.Coming.{Coming, code_coming, targets_with}
+use Rattle.clif_simulation.specs.Coming.{Coming, MayCome, code_coming, targets_with}
 use Rattle.clif_simulation.proofs.Listed.{place_within}
 
 -- no edge may come
@@ -123,3 +124,11 @@ module _ (calls : List AnsweredCall) where
 
   pub given_so_far : (x : Name) (p : Place Name) → IsGivenBefore (code_so_far calls) x p → IsGivenBefore none x p
   given_so_far x p = before_alike (code_so_far calls) none (λ q. refl) (λ block. refl) x p (λ path is. path_so_far p path is)
+
+-- where no edge may come
+pub may_nothing : (calls : List AnsweredCall) (s : SsaState) → IsWellPlaced (program_code (program_so_far calls)) → MayCome nothing_comes calls s
+may_nothing calls s placed = record {
+  blocks = λ from target none. absurd (none_of [] target refl none);
+  unsealed = λ from target none. absurd (none_of [] target refl none);
+  given_before = placed_none calls placed;
+}

@@ -33,7 +33,7 @@ use Rattle.clif_meaning.specs.FunctionMachine.{Collector, FunctionRun, FunctionS
 use Rattle.clif_meaning.specs.FunctionView.{Placed}
 use Rattle.clif_meaning.specs.View.{items_of, view_of}
 use Rattle.clif_meaning.specs.Path.{Place}
-use Rattle.clif_meaning.specs.WellPlaced.{IsGivenBefore, IsWellPlaced, program_code}
+use Rattle.clif_meaning.specs.WellPlaced.{IsGivenBefore}
 use Rattle.clif_meaning.specs.Headline.{IsWorldOf}
 use Rattle.clif_meaning.proofs.Stuttering.{steps_from, state_after-+}
 use Rattle.clif_simulation.specs.Tables.{code, answered, program_so_far, block_name}
@@ -41,8 +41,7 @@ use Rattle.clif_simulation.specs.Carries.{as_passed, carried, own_placed, Carrie
 use Rattle.clif_simulation.specs.Reading.{behind, function_run_so_far, IsAtEnd, script_run_so_far, WellTypedSoFar}
 use Rattle.clif_simulation.specs.Interrupted.{Unknowns, ScriptStanding, FunctionStanding, script_edge, script_goes, script_enters, function_enters, variables_entering, values_entering, without_arguments, StandsBefore, StandsBesideIn, HasBesideIn, AreOpen, ReadsRightWhere, RunsBeside}
 use Rattle.clif_simulation.specs.Coming.{Arrival, Arrivals, Coming, MayCome, ReadsRightComing, RunsBesideArriving, arrival_at, code_coming, script_comes}
-use Rattle.clif_simulation.proofs.Unfinished.ComingCode.{given_so_far, nothing_comes, placed_none}
-use Rattle.clif_meaning.proofs.StraightLine.{none_of}
+use Rattle.clif_simulation.proofs.Unfinished.ComingCode.{given_so_far, may_nothing, nothing_comes}
 use Rattle.clif_meaning.specs.Ledger.{ledger_after}
 use Rattle.clif_simulation.proofs.Finished.Agreement.{Agrees, NothingIsZero, ZerosAreZero, given_agrees, given_nothing, name_bits, unlabelled_variable, zeros_agree}
 use Rattle.clif_simulation.proofs.Labelling.Labelled.{labelled, labelled_value}
@@ -364,14 +363,6 @@ reads_right_coming calls signature f ssa growing consistent carries are_open wid
     let moving = labelled calls f ssa consistent both tracked collector moves in
     beside coming arrivals calls signature f ssa consistent both width world tracked collector moving.0 growing are_open fits typed may
     (calls_keep coming calls f ssa consistent both world tracked collector moving.0 moving.1) (inl branches) block name named is_entry unknowns
-
--- where no edge may come
-pub may_nothing : (calls : List AnsweredCall) (ssa : SsaState) → IsWellPlaced (program_code (program_so_far calls)) → MayCome nothing_comes calls ssa
-may_nothing calls ssa placed = record {
-  blocks = λ from target none. absurd (none_of [] target refl none);
-  unsealed = λ from target none. absurd (none_of [] target refl none);
-  given_before = placed_none calls placed;
-}
 
 -- what runs beside one along no such edges runs beside it in the code so far
 pub beside_none : (calls : List AnsweredCall) (f : Body) (ssa : SsaState) (left : ScriptRun) (right : FunctionRun) (block : ℕ) (name : Name)

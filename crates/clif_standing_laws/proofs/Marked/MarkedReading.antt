@@ -11,7 +11,7 @@ use Rattle.clif_simulation.specs.Carries.{Carries}
 use Rattle.clif_simulation.specs.Interrupted.{AreOpen}
 use Rattle.clif_simulation.specs.Reading.{function_run_so_far, script_run_so_far}
 use Rattle.clif_simulation.proofs.Labelling.Labels.{no_labels}
-use Rattle.clif_simulation.proofs.Unfinished.ComingCode.{nothing_comes}
+use Rattle.clif_simulation.proofs.Unfinished.ComingCode.{may_nothing, nothing_comes}
 use Rattle.clif_simulation.proofs.Unfinished.OpenEdges
 use Rattle.clif_simulation.proofs.Unfinished.OpenReading
 use Rattle.clif_simulation.proofs.Whole.{Whole, whole, whole_own}
@@ -35,4 +35,4 @@ module _ (calls : List AnsweredCall) (signature : SignatureShape) (f : Body) (ss
     reads_right width world tracked collector fits premises free moves block name named is_entry =
         OpenReading.beside_none calls f ssa (script_run_so_far calls f world tracked) (function_run_so_far calls f world collector) block name
         (reads_right_coming width world tracked collector nothing_comes fits premises.well_typed
-        (OpenReading.may_nothing calls ssa premises.given_before) free moves block name named is_entry (λ entries. None))
+        (may_nothing calls ssa premises.given_before) free moves block name named is_entry (λ entries. None))
