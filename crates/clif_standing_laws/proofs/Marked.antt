@@ -4,3 +4,5 @@ pub mod OpenCalling
 pub mod MarkedReading
 pub mod RecordedReading
 pub mod MarkedRow
+pub mod ComingCarried
+pub mod ComingRow

@@ -4,6 +4,7 @@
 #![tactic(auto)]
 
 ghost use Rattle.clif_standing_laws.specs.Laws.{StandingIsWellPlaced, StandingIsWellPlacedComing, StandingReadsRight, StandingReadsRightComing, StandingReadsRightFromAnywhere, StandingReadsRightMarked, StandingReadsRightMarkedComing, StandingReadsRightRecorded, StandingReadsRightRecordedComing, StandingRecordsAreWellPlaced};
+ghost use Rattle.clif_standing_laws.specs.MarkedComingExamples.{MarkedComingExamples};
 ghost use Rattle.clif_standing_laws.specs.MarkedExamples.{MarkedExamples};
 ghost use Rattle.clif_standing_laws.specs.MovingExamples.{MovingExamples};
 ghost use Rattle.clif_standing_laws.specs.RecordedExamples.{RecordedExamples};
@@ -82,4 +83,11 @@ pub fn made_parameter_is_recorded()
 /// unmarked variables.
 pub fn marked_variable_reads_right()
     ensures { MarkedExamples }
+{}
+
+/// An unfinished function in which a marked variable is used in a block that only an edge reaches that may still come, and what the
+/// use answers is named behind another such edge, an outside call's, reads right along these edges, and its values are defined before
+/// they are named. Edges that lead around the use are none that may come, and along them they aren't.
+pub fn marked_variable_crosses_edges()
+    ensures { MarkedComingExamples }
 {}
