@@ -4,6 +4,7 @@ mod Opened
 pub mod Ended
 pub mod Counted
 pub mod Reaching
+pub mod AlongCalls
 mod Alongside
 mod Setting
 pub mod RightReading

@@ -1,5 +1,6 @@
 -- Unfinished functions under marks: what moves on both sides agrees.
 pub mod OpenSources
+pub mod MovedAlike
 pub mod OpenCalling
 pub mod MarkedReading
 pub mod RecordedReading

@@ -16,7 +16,7 @@ use Rattle.clif_simulation.specs.Interrupted.{ReadsRight}
 use Rattle.clif_simulation.specs.Coming.{Coming, MayCome, ReadsRightComing, function_coming}
 use Rattle.clif_builder.specs.Context.{ContextState}
 use Rattle.clif_builder.specs.StandsFor.{StandsIn}
-use Rattle.clif_standing_laws.specs.Marked.{ReadsRightMarked, ReadsRightMarkedComing, ReadsRightRecorded, ReadsRightRecordedComing}
+use Rattle.clif_standing_laws.specs.Marked.{ReadsRightMarked, ReadsRightMarkedComing, ReadsRightMarkedFromAnywhere, ReadsRightRecorded, ReadsRightRecordedComing, ReadsRightRecordedFromAnywhere}
 
 -- Where the parts of a builder stand for a list of calls, they read right on runs and bits, with any branches and parameters of
 -- the caller's: beside a run of the list's program that is interrupted at unsealed blocks, a run of the unfinished function has
@@ -78,6 +78,12 @@ StandingReadsRightMarkedComing =
     → IsConsistent f → (stands : StandsIn declared calls f c position)
     → ReadsRightMarkedComing (may_grow calls) calls stands.carries.own declared f c.ssa
 
+abbrev pub StandingReadsRightMarkedFromAnywhere : Type 0
+StandingReadsRightMarkedFromAnywhere =
+    (declared : SignatureShape) (calls : List AnsweredCall) (f : Body) (c : ContextState) (position : Option ℕ)
+    → IsConsistent f → (stands : StandsIn declared calls f c position) → NothingLeads c.ssa
+    → ReadsRightMarkedFromAnywhere calls stands.carries.own declared f c.ssa
+
 -- What is recorded so far agrees with the marks of the calls. So under a collector over exactly that they read right, whatever calls
 -- ask stack maps for.
 abbrev pub StandingReadsRightRecorded : Type 0
@@ -89,3 +95,8 @@ abbrev pub StandingReadsRightRecordedComing : Type 0
 StandingReadsRightRecordedComing =
     (declared : SignatureShape) (calls : List AnsweredCall) (f : Body) (c : ContextState) (position : Option ℕ)
     → IsConsistent f → StandsIn declared calls f c position → ReadsRightRecordedComing (may_grow calls) calls declared f c.ssa
+
+abbrev pub StandingReadsRightRecordedFromAnywhere : Type 0
+StandingReadsRightRecordedFromAnywhere =
+    (declared : SignatureShape) (calls : List AnsweredCall) (f : Body) (c : ContextState) (position : Option ℕ)
+    → IsConsistent f → StandsIn declared calls f c position → NothingLeads c.ssa → ReadsRightRecordedFromAnywhere calls declared f c.ssa

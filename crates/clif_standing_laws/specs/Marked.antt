@@ -24,7 +24,7 @@ use Rattle.clif_meaning.specs.World.{World}
 use Rattle.clif_simulation.specs.Coming.{Arrivals, Coming, MayCome, RunsBesideArriving}
 use Rattle.clif_simulation.specs.Interrupted.{RunsBeside}
 use Rattle.clif_simulation.specs.Marked.{NamesAgree, ValuesAgree}
-use Rattle.clif_simulation.specs.Reading.{PremisesSoFar, WellTypedSoFar, function_run_so_far, script_run_so_far}
+use Rattle.clif_simulation.specs.Reading.{PremisesSoFar, RunSideBySide, WellTypedSoFar, function_run_so_far, may_grow, script_run_so_far}
 use Rattle.clif_simulation.specs.Tables.{block_name, program_so_far}
 
 -- the values that a collector moves, of a function without stack maps
@@ -62,6 +62,13 @@ ReadsRightMarkedComing growing calls own signature f s =
     → (arrivals : Arrivals)
     → RunsBesideArriving coming arrivals calls f s (script_run_so_far calls f world tracked) (function_run_so_far calls f world collector) block name
 
+-- and where no branch was made, from every pair of states at the front of an unsealed entry (`ReadsRightFromAnywhere`)
+abbrev pub ReadsRightMarkedFromAnywhere : List AnsweredCall → Own → SignatureShape → Body → SsaState → Type 0
+ReadsRightMarkedFromAnywhere calls own signature f s =
+    (width : PointerWidth) (world : World) (tracked : Name → Bool) (collector : Collector)
+    → IsWorldOf signature (view_of f) width world → PremisesSoFar (may_grow calls) calls signature → MovesAsMarked calls own f s tracked collector
+    → RunSideBySide calls f s (script_run_so_far calls f world tracked) (function_run_so_far calls f world collector)
+
 -- the collector over exactly what is recorded so far
 abbrev pub over_recorded : SsaState → Collector
 over_recorded s = OverSet (λ value. has (recorded_of s.tracking) value)
@@ -87,3 +94,9 @@ ReadsRightRecordedComing growing calls signature f s =
     → (arrivals : Arrivals)
     → RunsBesideArriving coming arrivals calls f s (script_run_so_far calls f world (is_tracked (script_of calls)))
     (function_run_so_far calls f world (over_recorded s)) block name
+
+abbrev pub ReadsRightRecordedFromAnywhere : List AnsweredCall → SignatureShape → Body → SsaState → Type 0
+ReadsRightRecordedFromAnywhere calls signature f s =
+    (width : PointerWidth) (world : World)
+    → IsWorldOf signature (view_of f) width world → PremisesSoFar (may_grow calls) calls signature → KeepsApart calls
+    → RunSideBySide calls f s (script_run_so_far calls f world (is_tracked (script_of calls))) (function_run_so_far calls f world (over_recorded s))

@@ -3,7 +3,7 @@
 //! and their contracts are the laws.
 #![tactic(auto)]
 
-ghost use Rattle.clif_standing_laws.specs.Laws.{StandingIsWellPlaced, StandingIsWellPlacedComing, StandingReadsRight, StandingReadsRightComing, StandingReadsRightFromAnywhere, StandingReadsRightMarked, StandingReadsRightMarkedComing, StandingReadsRightRecorded, StandingReadsRightRecordedComing, StandingRecordsAreWellPlaced};
+ghost use Rattle.clif_standing_laws.specs.Laws.{StandingIsWellPlaced, StandingIsWellPlacedComing, StandingReadsRight, StandingReadsRightComing, StandingReadsRightFromAnywhere, StandingReadsRightMarked, StandingReadsRightMarkedComing, StandingReadsRightMarkedFromAnywhere, StandingReadsRightRecorded, StandingReadsRightRecordedComing, StandingReadsRightRecordedFromAnywhere, StandingRecordsAreWellPlaced};
 ghost use Rattle.clif_standing_laws.specs.MarkedComingExamples.{MarkedComingExamples};
 ghost use Rattle.clif_standing_laws.specs.MarkedExamples.{MarkedExamples};
 ghost use Rattle.clif_standing_laws.specs.MovingExamples.{MovingExamples};
@@ -36,6 +36,11 @@ pub fn standing_reads_right_marked_coming()
     ensures { StandingReadsRightMarkedComing }
 {}
 
+/// Where no branch was made, it has them from every pair of states at the front of an unsealed entry.
+pub fn standing_reads_right_marked_from_anywhere()
+    ensures { StandingReadsRightMarkedFromAnywhere }
+{}
+
 /// What was recorded for stack maps so far agrees with the marks of the calls: so it has them under a collector over exactly that,
 /// beside the run of the list's program in which marked variables and tracked names move.
 pub fn standing_reads_right_recorded()
@@ -45,6 +50,11 @@ pub fn standing_reads_right_recorded()
 /// It has them beside runs that also go along edges that may still come, those of outside calls among them.
 pub fn standing_reads_right_recorded_coming()
     ensures { StandingReadsRightRecordedComing }
+{}
+
+/// Where no branch was made, it has them from every pair of states at the front of an unsealed entry.
+pub fn standing_reads_right_recorded_from_anywhere()
+    ensures { StandingReadsRightRecordedFromAnywhere }
 {}
 
 /// The values of the unfinished function of a builder that stands for a list of calls are defined before they are named, where

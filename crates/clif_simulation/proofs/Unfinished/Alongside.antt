@@ -1,5 +1,5 @@
 -- Both machines of an unfinished function side by side in its entry: what each item keeps.
-use Rattle.std.proofs.Common.{◌≡◌, ◌≢◌, ℕ, suc, ◌<◌, ◌≤◌, nat_lt, Bool, true, false, List, [], ◌∷◌, length, map, drop, flat_map, slice_get, Some, ◌⊎◌, inl, inr, refl, sym, ◌∙◌, ap, subst, subst₂, arith}
+use Rattle.std.proofs.Common.{◌≡◌, ◌≢◌, ℕ, zero, suc, ◌<◌, ◌≤◌, nat_lt, Bool, true, false, List, [], ◌∷◌, length, map, drop, flat_map, slice_get, Some, ◌⊎◌, inl, inr, refl, sym, ◌∙◌, ap, subst, subst₂, arith}
 use Rattle.std.proofs.lemmas.Bool.Decides.{nat_tests}
 use Rattle.clif_types.specs.declared.target.PointerWidth.{PointerWidth}
 use Rattle.clif_ir.specs.Body.{Body, resolved}
@@ -8,6 +8,7 @@ use Rattle.clif_paths.specs.Places.{Place, start, inside, Edges, Follows, Visits
 use Rattle.clif_paths.specs.State.{Naming, Program, born, Definition, Function, home_of}
 use Rattle.clif_paths.specs.Denotation.{variable, name, instances, denotes}
 use Rattle.clif_paths.specs.Sound.{SoundUnder, Holds}
+use Rattle.clif_paths.proofs.PathLemmas.{same_place-refl}
 use Rattle.clif_paths.specs.Blocks.{Blocks, state_of}
 use Rattle.clif_paths.proofs.BlockTables.{recorded_at-last}
 use Rattle.clif_paths.proofs.Executing.{variable-kept, denotes-past}
@@ -32,7 +33,7 @@ use Rattle.clif_meaning.specs.FunctionView.{Placed}
 use Rattle.clif_meaning.specs.WellPlaced.{program_code, IsWellPlaced}
 use Rattle.clif_simulation.specs.Tables.{code, answered, program_so_far}
 use Rattle.clif_simulation.specs.Carries.{CallsNothing, carried, answered_edge, answered_instruction}
-use Rattle.clif_simulation.specs.Reading.{MovesAlike, script_run_so_far, function_run_so_far}
+use Rattle.clif_simulation.specs.Reading.{script_run_so_far, function_run_so_far}
 use Rattle.clif_simulation.proofs.Unbranched.{CarriesUnbranched, PlainlyEarlier}
 use Rattle.clif_simulation.proofs.Finished.Giving.{In, first_contained, in_contained, name_keeps, value_keeps, same_or_other}
 use Rattle.clif_simulation.proofs.Finished.Agreement.{any_value, Agrees, AssignsThere, GivesThere, NothingIsZero, UsesThere, assigned_agrees, assigned_nothing, given_agrees, given_nothing, name_bits, unlabelled_variable, used_agrees, used_nothing}
@@ -44,12 +45,14 @@ use Rattle.clif_simulation.proofs.Unfinished.Ended.{with_ends_only, defined-end,
 use Rattle.clif_simulation.proofs.Unfinished.Opened.{Opens, opened}
 use Rattle.clif_simulation.proofs.Unfinished.Opened
 use Rattle.clif_simulation.proofs.Unfinished.Counted.{gives_results, as_many, as_many_values, call_count}
-use Rattle.clif_simulation.proofs.Labelling.Labelled.{MovesBy, MovesLabelled, ends_labels, ends_moves, labelled, labelled_value}
-use Rattle.clif_simulation.proofs.Labelling.Labelled
+use Rattle.clif_simulation.proofs.Labelling.Labelled.{ends_labels, labelled_value}
 use Rattle.clif_simulation.proofs.Labelling.Labels.{Labels}
 use Rattle.clif_simulation.proofs.Labelling.Outside
-use Rattle.clif_simulation.proofs.Labelling.Outside.{moved_if}
-use Rattle.clif_simulation.proofs.Labelling.Moved
+use Rattle.clif_simulation.proofs.Unfinished.AlongCalls
+use Rattle.clif_simulation.proofs.Unfinished.AlongCalls.{KeepAlong, MovesHere}
+use Rattle.clif_simulation.proofs.Unfinished.ComingCode.{nothing_comes}
+use Rattle.clif_simulation.proofs.Unfinished.OpenArms
+use Rattle.clif_simulation.proofs.Unfinished.OpenFlow
 use Rattle.clif_simulation.proofs.Finished.Entry
 use Rattle.clif_simulation.proofs.Finished.ItemsAt
 
@@ -96,7 +99,8 @@ mapped_count g (x ∷ xs) = ap suc (mapped_count g xs)
 module _ (calls : List AnsweredCall) (f : Body) (ssa : SsaState) (consistent : IsConsistent f) (carries : CarriesUnbranched calls f ssa)
     (entry : Name) (is_entry : (program_so_far calls).entry ≡ Some entry) (placed : IsWellPlaced (program_code (program_so_far calls)))
     (sealed : ℕ → Bool) (joins : Edges) (opens : Opens carries.whole.tables (Entry.e calls f ssa carries entry is_entry) sealed joins)
-    (width : PointerWidth) (world : World) (tracked : Name → Bool) (collector : Collector) (alike : OutcomesAlike calls f world) (moves : MovesAlike calls tracked collector)
+    (width : PointerWidth) (world : World) (tracked : Name → Bool) (collector : Collector) (alike : OutcomesAlike calls f world)
+    (moves : MovesHere calls f ssa consistent carries.whole world tracked collector)
   where
     abbrev pub left_run : ScriptRun
     left_run = script_run_so_far calls f world tracked
@@ -121,12 +125,8 @@ module _ (calls : List AnsweredCall) (f : Body) (ssa : SsaState) (consistent : I
     function = with_ends_only tables.function
 
     -- by which names and values both runs move
-    pub moving : (labels : Labels (Labelled.program calls f ssa consistent carries.whole) (Labelled.function calls f ssa consistent carries.whole))
-        × MovesBy calls f tracked collector (Labelled.program calls f ssa consistent carries.whole) (Labelled.function calls f ssa consistent carries.whole) labels
-    moving = labelled calls f ssa consistent carries.whole tracked collector moves
-
     abbrev pub labels : Labels program function
-    labels = ends_labels calls f ssa consistent carries.whole moving.0
+    labels = ends_labels calls f ssa consistent carries.whole moves.0
 
     abbrev edges : Edges
     edges = Opened.edges calls f ssa carries entry is_entry placed sealed joins opens
@@ -205,7 +205,7 @@ module _ (calls : List AnsweredCall) (f : Body) (ssa : SsaState) (consistent : I
         let is : u ≡ resolved f (answered calls x) = carries.whole.describes.resolves v ∙ ap (resolved f) earlier.answer in
         sym (a.names_are x i before home)
         ∙ name_bits any_value program function labels (straight e k) p.variables a.names a.values a.agrees a.held x u tt
-        (labelled_value calls f ssa consistent carries.whole moving.0 x (no_start (tables.naming (code x)).home e i home)) same
+        (labelled_value calls f ssa consistent carries.whole moves.0 x (no_start (tables.naming (code x)).home e i home)) same
         ∙ a.values_are u at.i (omega (arith, at.before, before)) at.home ∙ ap q.values is
 
     -- at the end so far each record has its variable's bits
@@ -473,8 +473,17 @@ module _ (calls : List AnsweredCall) (f : Body) (ssa : SsaState) (consistent : I
     no_edge_taken p {edges} none edge given memory left =
         subst (λ (es : List (Edge Name Name)). (script.follow_edge left_run (record p { memory = memory }) given (slice_get es edge)).control ≡ At left → ⊥) (sym none) (λ on. cc)
 
-    -- An outside call: both show the same event and get the same answer, and move what has a label.
-    module _ (moves_labelled : MovesLabelled calls f tracked collector program function labels) (k place : ℕ) (instruction : Instruction Name Name) (results : List Name) (rest : List Item) (p : ScriptState) (q : FunctionState)
+    -- the path goes along the edges so far
+    follows_open : (k : ℕ) → k ≤ length items → Follows (OpenFlow.edges nothing_comes calls f ssa consistent carries.whole) (straight e k)
+    follows_open zero within =
+        (OpenArms.start_open (OpenFlow.more_coming calls tables nothing_comes) carries.whole.own f ssa tables carries.whole.describes e (Entry.found calls f ssa carries entry is_entry), refl, tt)
+    follows_open (suc k) within =
+        let below : k < tables.count e = omega (arith, counted, within) in
+        let there : nat_lt k (tables.count e) ≡ true = grind (arith, nat_tests) in
+        (rw (there, same_place-refl (inside e k)) refl, sym (straight_end e k), follows_open k (omega (arith, within)))
+
+    -- An outside call: both show the same event and get the same answer, and still agree.
+    module _ (keep : KeepAlong calls f ssa consistent carries.whole world tracked collector moves.0) (k place : ℕ) (instruction : Instruction Name Name) (results : List Name) (rest : List Item) (p : ScriptState) (q : FunctionState)
         (here : drop k items ≡ Instruct place instruction results ∷ rest) (a : Alongside k p q) (callee : Callee) (call : CallShape) (arguments : List ℕ)
         (is : outcome_of world instruction.operation instruction.controlling (map left_run.name_type instruction.operands) (map p.names instruction.operands) p.memory
         ≡ Calls callee call arguments)
@@ -492,21 +501,8 @@ module _ (calls : List AnsweredCall) (f : Body) (ssa : SsaState) (consistent : I
         memory_is = Outside.memory_is left_run f collector p q a.same_memory a.same_events [] refl callee call arguments
 
         -- the bits that stand for those of names and values move as these do
-        abbrev names_behind : Name → ℕ
-        names_behind = Moved.name_behind calls f world tracked collector p q a.same_memory a.same_events [] refl callee call arguments program function labels moves_labelled a.names
-
-        abbrev values_behind : ℕ → ℕ
-        values_behind = Moved.value_behind calls f world tracked collector p q a.same_memory a.same_events [] refl callee call arguments program function labels moves_labelled a.values
-
-        name_is : (x : Name) → a.names x ≡ p.names x → names_behind x ≡ p'.names x
-        name_is x same =
-            ap (λ (bits : ℕ). moved_if (labels.of_name x) (world.moved p'.events call (left_run.name_type x) bits) bits) same
-            ∙ sym (Moved.name_is calls f world tracked collector p q a.same_memory a.same_events [] refl callee call arguments program function labels moves_labelled x)
-
-        value_is : (w : ℕ) → a.values w ≡ q.values w → values_behind w ≡ q'.values w
-        value_is w same =
-            ap (λ (bits : ℕ). moved_if (labels.of_value w) (world.moved q'.events call (right_run.function.value_type w) bits) bits) same
-            ∙ sym (Moved.value_is calls f world tracked collector p q a.same_memory a.same_events [] refl callee call arguments program function labels moves_labelled w)
+        behind : AlongCalls.Behind calls f ssa consistent carries.whole world tracked collector moves.0 (straight e k) p q callee call arguments a.names a.values
+        behind = keep (straight e k) (follows_open k a.within) p q a.same_memory a.same_events callee call arguments a.names a.values a.agrees a.held
 
         called : Alongside k p' q'
         called = record {
@@ -515,14 +511,12 @@ module _ (calls : List AnsweredCall) (f : Body) (ssa : SsaState) (consistent : I
           function_at = a.function_at;
           same_memory = memory_is;
           same_events = events_are;
-          names = names_behind;
-          values = values_behind;
-          agrees = Moved.agrees_behind calls f world tracked collector p q a.same_memory a.same_events [] refl callee call arguments program function labels moves_labelled
-              any_value (straight e k) a.names a.values a.agrees a.held names_behind values_behind (λ x. refl) (λ w. refl);
-          held = Moved.nothing_behind calls f world tracked collector p q a.same_memory a.same_events [] refl callee call arguments program function labels moves_labelled
-              any_value (straight e k) a.names a.values a.agrees a.held names_behind (λ x. refl);
-          names_are = λ x i within home. name_is x (a.names_are x i within home);
-          values_are = λ w i within home. value_is w (a.values_are w i within home);
+          names = behind.new_names;
+          values = behind.new_values;
+          agrees = behind.agrees;
+          held = behind.held;
+          names_are = λ x i within home. behind.names_are x (a.names_are x i within home);
+          values_are = λ w i within home. behind.values_are w (a.values_are w i within home);
         }
 
         -- both behind the answer, where the instruction has these edges
@@ -583,14 +577,14 @@ module _ (calls : List AnsweredCall) (f : Body) (ssa : SsaState) (consistent : I
     after_outcome k place instruction results rest p q here a (Returns bits) plain is left on = cc
     after_outcome k place instruction results rest p q here a (Traps reason) plain is left on = cc
     after_outcome k place instruction results rest p q here a (Calls callee call arguments) plain is left on =
-        by (ends_moves calls f ssa consistent carries.whole moving.0 tracked collector moving.1)
+        by moves.1
       where
-        by : MovesBy calls f tracked collector program function labels
+        by : EachItem CallsNothing (program_so_far calls) ⊎ KeepAlong calls f ssa consistent carries.whole world tracked collector moves.0
             → Alongside (suc k) (script.carry_out left_run p instruction.edges results rest (Calls callee call arguments))
             (function_machine_of.carry_out right_run q (answered_placed instruction results) (flat_map (carried calls) rest) (Calls callee call arguments))
         by (inl none) = absurd (plain none)
-        by (inr moves_labelled) =
-            call_step moves_labelled k place instruction results rest p q here a callee call arguments is
+        by (inr keep) =
+            call_step keep k place instruction results rest p q here a callee call arguments is
             ((all_at (PlainlyEarlier calls) items k (Instruct place instruction results) (carries.earlier entry) (item_here items k (Instruct place instruction results) rest here)).2) left on
     after_outcome k place instruction results rest p q here a NoStep plain is left on = cc
 

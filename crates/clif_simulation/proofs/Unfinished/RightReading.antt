@@ -22,13 +22,15 @@ use Rattle.clif_simulation.proofs.Unbranched.{CarriesUnbranched}
 use Rattle.clif_simulation.proofs.Finished.Starting.{arguments_count}
 use Rattle.clif_simulation.proofs.Unfinished.Reaching.{reached_entry}
 use Rattle.clif_simulation.proofs.Finished.Entry
+use Rattle.clif_simulation.proofs.Unfinished.AlongCalls.{MovesHere, moves_here}
 use Rattle.clif_simulation.proofs.Unfinished.Opened
 use Rattle.clif_simulation.proofs.Finished.OperandTypes.{OutcomesAlike, outcomes_alike_so_far}
 use Rattle.clif_simulation.proofs.Unfinished.Setting
 
 module _ (calls : List AnsweredCall) (signature : SignatureShape) (f : Body) (ssa : SsaState) (consistent : IsConsistent f) (carries : CarriesUnbranched calls f ssa)
     (width : PointerWidth) (world : World) (tracked : Name → Bool) (collector : Collector)
-    (fits : IsWorldOf signature (view_of f) width world) (premises : PremisesSoFar (may_grow calls) calls signature) (moves : MovesAlike calls tracked collector)
+    (fits : IsWorldOf signature (view_of f) width world) (premises : PremisesSoFar (may_grow calls) calls signature)
+    (moves : MovesHere calls f ssa consistent carries.whole world tracked collector)
   where
     abbrev left_run : ScriptRun
     left_run = script_run_so_far calls f world tracked
@@ -96,11 +98,20 @@ module _ (calls : List AnsweredCall) (signature : SignatureShape) (f : Body) (ss
           (Opened.sealed_now calls f ssa carries entry is_entry) (Opened.joins_now calls f ssa carries entry is_entry)
           (Opened.opens-unsealed calls f ssa carries entry is_entry is) width world tracked collector alike moves as_many))
 
-    pub runs : RunSideBySide calls f ssa left_run right_run
-    runs = record {
+    pub runs_moving : RunSideBySide calls f ssa left_run right_run
+    runs_moving = record {
       from_entry = λ block name named is_entry.
           subst (λ (b : ℕ). FromStart b name) (the_entry name is_entry block named) (entered name is_entry (is_yes (sealed_of ssa (e name is_entry))) refl);
       from_unsealed = λ block name named reached.
           let is_entry = reached_entry calls carries.earlier name reached in
           subst (λ (b : ℕ). FromAny b name) (the_entry name is_entry block named) (begun name is_entry);
     }
+
+-- where both runs move alike
+pub runs : (calls : List AnsweredCall) (signature : SignatureShape) (f : Body) (ssa : SsaState) → IsConsistent f → CarriesUnbranched calls f ssa
+    → (width : PointerWidth) (world : World) (tracked : Name → Bool) (collector : Collector) → IsWorldOf signature (view_of f) width world
+    → PremisesSoFar (may_grow calls) calls signature → MovesAlike calls tracked collector
+    → RunSideBySide calls f ssa (script_run_so_far calls f world tracked) (function_run_so_far calls f world collector)
+runs calls signature f ssa consistent carries width world tracked collector fits premises moves =
+    runs_moving calls signature f ssa consistent carries width world tracked collector fits premises
+    (moves_here calls f ssa consistent carries.whole world tracked collector moves)

@@ -34,7 +34,7 @@ use Rattle.clif_meaning.specs.WellPlaced.{program_code, IsWellPlaced}
 use Rattle.clif_meaning.proofs.StraightLine.{nothing_contained}
 use Rattle.clif_simulation.specs.Tables.{code, answered, block_name, program_so_far}
 use Rattle.clif_simulation.specs.Carries.{carried}
-use Rattle.clif_simulation.specs.Reading.{MovesAlike, starting_at, IsAtEnd, StandAlike, StartAlike, SideBySide}
+use Rattle.clif_simulation.specs.Reading.{starting_at, IsAtEnd, StandAlike, StartAlike, SideBySide}
 use Rattle.clif_simulation.proofs.Unbranched.{CarriesUnbranched}
 use Rattle.clif_simulation.proofs.Finished.Agreement.{any_value, Agrees, IsBlank, ZerosAreZero, zeros_agree}
 use Rattle.clif_simulation.proofs.Finished.Entered.{ComesAlong, EntersThere, entered_agrees, entered_zeros}
@@ -54,12 +54,14 @@ use Rattle.clif_simulation.proofs.Unfinished.Reaching
 use Rattle.clif_simulation.proofs.Finished.Fronts.{HasFront, has_front, placed_inst}
 use Rattle.clif_simulation.proofs.Finished.Entry
 use Rattle.clif_simulation.proofs.Finished.OperandTypes.{OutcomesAlike}
+use Rattle.clif_simulation.proofs.Unfinished.AlongCalls.{MovesHere}
 use Rattle.clif_simulation.proofs.Unfinished.Alongside
 
 module _ (calls : List AnsweredCall) (f : Body) (ssa : SsaState) (consistent : IsConsistent f) (carries : CarriesUnbranched calls f ssa)
     (entry : Name) (is_entry : (program_so_far calls).entry ≡ Some entry) (placed : IsWellPlaced (program_code (program_so_far calls)))
     (sealed : ℕ → Bool) (joins : Edges) (opens : Opens carries.whole.tables (Entry.e calls f ssa carries entry is_entry) sealed joins)
-    (width : PointerWidth) (world : World) (tracked : Name → Bool) (collector : Collector) (alike : OutcomesAlike calls f world) (moves : MovesAlike calls tracked collector)
+    (width : PointerWidth) (world : World) (tracked : Name → Bool) (collector : Collector) (alike : OutcomesAlike calls f world)
+    (moves : MovesHere calls f ssa consistent carries.whole world tracked collector)
   where
     abbrev pub left_run : ScriptRun
     left_run = Alongside.left_run calls f ssa consistent carries entry is_entry placed sealed joins opens width world tracked collector alike moves

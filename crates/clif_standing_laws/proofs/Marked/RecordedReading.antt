@@ -14,11 +14,12 @@ use Rattle.clif_meaning.specs.Ledger.{is_marked, ledger_after}
 use Rattle.clif_meaning.specs.Name.{Name}
 use Rattle.clif_meaning.specs.Request.{AnsweredCall, script_of}
 use Rattle.clif_meaning.specs.Tracked.{is_tracked}
-use Rattle.clif_simulation.specs.Carries.{Carries}
+use Rattle.clif_simulation.specs.Carries.{Carries, NothingLeads}
 use Rattle.clif_simulation.specs.Interrupted.{AreOpen}
 use Rattle.clif_simulation.proofs.Tracking.Agreeing
+use Rattle.clif_simulation.proofs.FreeEntry.{free_nowhere}
 use Rattle.clif_simulation.proofs.Whole.{Whole, whole, whole_own}
-use Rattle.clif_standing_laws.specs.Marked.{KeepsApart, MovesAsMarked, ReadsRightRecorded, ReadsRightRecordedComing, over_recorded}
+use Rattle.clif_standing_laws.specs.Marked.{KeepsApart, MovesAsMarked, ReadsRightRecorded, ReadsRightRecordedComing, ReadsRightRecordedFromAnywhere, over_recorded}
 use Rattle.clif_standing_laws.proofs.Marked.MarkedReading
 
 module _ (calls : List AnsweredCall) (f : Body) (s : SsaState) (consistent : IsConsistent f)
@@ -52,3 +53,11 @@ module _ (calls : List AnsweredCall) (signature : SignatureShape) (f : Body) (ss
     reads_right_coming width world coming fits typed may free apart =
         MarkedReading.reads_right_coming calls signature f ssa growing consistent carries are_open width world (is_tracked (script_of calls)) (over_recorded ssa)
         coming fits typed may free (moves_recorded calls f ssa consistent marks apart carries free)
+
+-- where no branch was made
+pub from_anywhere : (calls : List AnsweredCall) (signature : SignatureShape) (f : Body) (ssa : SsaState) (consistent : IsConsistent f) (carries : Carries calls f ssa)
+    → ((x : ℕ) → is_marked (ledger_after (script_of calls)) x ≡ has (marked_of ssa.tracking) x) → NothingLeads ssa
+    → ReadsRightRecordedFromAnywhere calls signature f ssa
+from_anywhere calls signature f ssa consistent carries marks nothing width world fits premises apart =
+    MarkedReading.from_anywhere calls signature f ssa consistent carries nothing width world (is_tracked (script_of calls)) (over_recorded ssa) fits premises
+    (moves_recorded calls f ssa consistent marks apart carries (free_nowhere f ssa nothing))
