@@ -1,5 +1,5 @@
 -- What calls in a line make, one behind the other.
-use Rattle.std.proofs.Common.{◌≡◌, ◌<◌, ◌+◌, ℕ, zero, suc, false, List, [], ◌∷◌, ◌++◌, length, map, refl, sym, ◌∙◌, ap, ap₂, subst, arith, append_assoc, append-nil, Some}
+use Rattle.std.proofs.Common.{◌≡◌, ◌<◌, ◌≤◌, ◌+◌, ℕ, zero, suc, false, List, [], ◌∷◌, ◌++◌, length, map, refl, sym, ◌∙◌, ap, ap₂, subst, arith, append_assoc, append-nil, Some}
 use Rattle.std.specs.Prelude.{is_some, option_and_then, slice_get, slice_index_or, Result, Ok, Err, IfOk}
 use Rattle.std.specs.List.{AllZip}
 use Rattle.std.proofs.lemmas.List.{length-append, map-append}
@@ -9,6 +9,7 @@ use Rattle.clif_types.specs.declared.error.BuildError.{BuildError}
 use Rattle.clif_types.specs.declared.types.«Type».{«Type»}
 use Rattle.clif_instructions.specs.Instruction.{is_branch, is_terminator}
 use Rattle.clif_instructions.specs.declared.instructions.InstructionData.{InstructionData}
+use Rattle.clif_tables.specs.Callees.{count_of_results}
 use Rattle.clif_tables.specs.Entries.{TableEntry}
 use Rattle.clif_meaning.specs.Instruction.{Instruction}
 use Rattle.clif_meaning.specs.Ledger.{AValue, answers_to, value_answer_type}
@@ -231,12 +232,12 @@ module _ {R : Type 0} (operands : List ℕ) (old new : FunctionBuilder R) (shape
       }
 
   -- an instruction whose results aren't
-  pub inst_makes : (request : List Name → Request) → is_branch shape ≡ false → is_terminator shape ≡ false
+  pub inst_makes : (request : List Name → Request) → is_branch shape ≡ false → is_terminator shape ≡ false → count_of_results old.func.now.tables shape ≤ 1
       → ((signature : SignatureShape) (calls : List AnsweredCall) (names : List Name) → StandsFor signature calls old → AllZip (NamesValue calls) names operands
       → AsksForShape calls old.func.now (request names) shape ty)
       → Builds old new shape ty answer → Makes operands (λ place names. request names ∷ []) no_results (λ inst. []) old new answer
-  inst_makes request stays goes asks builds = record {
-    line = inst_line old new shape ty answer current stays goes builds;
+  inst_makes request stays goes few asks builds = record {
+    line = inst_line old new shape ty answer current stays goes few builds;
     stands = λ signature calls names stands named. by answer builds signature calls names stands (asks signature calls names stands named);
   }
     where

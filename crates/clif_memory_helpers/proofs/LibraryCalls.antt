@@ -1,8 +1,8 @@
 -- Calls of functions of the C library: their steps, one behind the other.
-use Rattle.std.proofs.Common.{◌≡◌, ◌<◌, ◌+◌, ◌-◌, ℕ, ℤ, suc, pos, true, false, Bool, List, [], ◌∷◌, ◌++◌, length, map, refl, sym, ◌∙◌, ap, ap₂, subst, arith, Some}
+use Rattle.std.proofs.Common.{◌≡◌, ◌<◌, ◌≤◌, inl, inr, ◌+◌, ◌-◌, ℕ, ℤ, suc, pos, true, false, Bool, List, [], ◌∷◌, ◌++◌, length, map, refl, sym, ◌∙◌, ap, ap₂, subst, arith, Some}
 use Rattle.std.specs.Prelude.{slice_get, slice_index_or, slice_index, if◌then◌else◌, IfOk, Result, Ok, Err}
 use Rattle.std.specs.List.{AllZip}
-use Rattle.std.proofs.lemmas.List.{length-append}
+use Rattle.std.proofs.lemmas.List.{length-append, length-map}
 use Rattle.clif_opcodes.specs.declared.opcodes.ConvertOpcode.TheVariants.{Uextend}
 use Rattle.clif_types.specs.Signature.{SignatureShape}
 use Rattle.clif_types.specs.Target.{pointer_type_of}
@@ -11,14 +11,14 @@ use Rattle.clif_types.specs.declared.error.BuildError.{BuildError}
 use Rattle.clif_types.specs.declared.extfunc.ExtFuncData.{ExtFuncData}
 use Rattle.clif_types.specs.declared.extname.ExternalName.{ExternalName}
 use Rattle.clif_types.specs.declared.libcall.LibCall.{LibCall}
-use Rattle.clif_types.specs.declared.libcall.LibCall.TheVariants.{Memcmp, Memset}
+use Rattle.clif_types.specs.declared.libcall.LibCall.TheVariants.{Memcpy, Memmove, Memset, Memcmp}
 use Rattle.clif_types.specs.declared.target.TargetFrontendConfig.{TargetFrontendConfig}
 use Rattle.clif_types.specs.declared.types.«Type».{«Type»}
 use Rattle.clif_types.specs.declared.types.«Type».TheVariants.{Invalid}
 use Rattle.clif_instructions.specs.Instruction.{AFunctionRef}
 use Rattle.clif_instructions.specs.Members.{stands_in}
 use Rattle.clif_instructions.specs.declared.instructions.InstructionData.{InstructionData}
-use Rattle.clif_tables.specs.Callees.{function_at, signature_at, no_function, no_signature}
+use Rattle.clif_tables.specs.Callees.{count_of_results, function_at, signature_at, no_function, no_signature}
 use Rattle.clif_tables.specs.Entries.{AFunction, ASignature}
 use Rattle.clif_tables.specs.Lists.{TableLists}
 use Rattle.clif_inst_builder.specs.Shapes as shapes
@@ -44,9 +44,9 @@ use Rattle.clif_expansion.specs.Emission.{building, building_with}
 use Rattle.clif_helper_calls.specs.LibraryCodes.{calling, i8, i32}
 use Rattle.clif_memory_helpers.specs.Helpers.{behind_imports, imported, library_function, library_signature, size_constant}
 use Rattle.clif_memory_helpers.specs.Lines.{HasType, InLine, Makes, Requests, Results, last_result, no_results, no_values, nth, one_value}
-use Rattle.clif_memory_helpers.specs.Steps.{GivesNumber, ImportsFunction, KnowsFunction, MakesTyped, call_request, calls_function, compares_known, copies_known, copies_sized, fills_known, fills_sized, imports}
+use Rattle.clif_memory_helpers.specs.Steps.{GivesNumber, GivesOne, ImportsFunction, KnowsFunction, MakesTyped, call_request, calls_function, compares_known, copies_known, copies_sized, fills_known, fills_sized, imports}
 use Rattle.clif_memory_helpers.proofs.Chains.{entry_makes, inst_makes, makes_as, makes_failed, makes_from, makes_then, named_last, nth_named, value_makes}
-use Rattle.clif_memory_helpers.proofs.Lines.{inst_line, line_ok}
+use Rattle.clif_memory_helpers.proofs.Lines.{IsImport, inst_line, line_ok}
 use Rattle.clif_memory_helpers.proofs.Loads.{compare_made, iconst_made, one_name, two_names}
 
 -- TABLES ------------------------------------------------------------------------------------------------------------------
@@ -74,11 +74,34 @@ pub const_is : {R : Type 0} (old new : FunctionBuilder R) (imm held : ℤ) (ty o
 const_is old new imm held ty other r same is built =
     subst (λ (z : ℤ). BuildsValue old new (shapes.unary_imm z) other r) same (subst (λ (t : «Type»). BuildsValue old new (shapes.unary_imm imm) t r) is built)
 
+-- A call of a function that returns one value has one result.
+pub one_result : (tables : TableLists) (function : ℕ) (args : List ℕ) → GivesOne tables function → count_of_results tables (shapes.call function args) ≤ 1
+one_result tables function args gives = omega (arith, gives)
+
+pub gives_one : (tables : TableLists) (function : ℕ) → GivesNumber tables function → GivesOne tables function
+gives_one tables function gives = sym (length-map (signature_at tables (function_at tables function).signature).returns _) ∙ ap length gives
+
+-- functions of the C library do
+pub library_gives_one : (tables : TableLists) (config : TargetFrontendConfig) (callee : LibCall) (function : ℕ) → KnowsFunction tables callee (library_signature config callee) function → GivesOne tables function
+library_gives_one tables config callee function knows = ap (λ (s : SignatureShape). length s.returns) knows.signature_is ∙ by callee
+  where
+    by : (callee : LibCall) → length (library_signature config callee).returns ≡ 1
+    by Memcpy = refl
+    by Memmove = refl
+    by Memset = refl
+    by Memcmp = refl
+
 -- IMPORTS -----------------------------------------------------------------------------------------------------------------
 
 module _ (reads : LedgerIsReadByNumber) (config : TargetFrontendConfig) (callee : LibCall) where
   abbrev signature : SignatureShape
   signature = library_signature config callee
+
+  imports_signature : IsImport (ASignature signature)
+  imports_signature = record { imports = λ t. refl; full = λ t most. inl most }
+
+  imports_function : (s : ℕ) → IsImport (AFunction (library_function callee s))
+  imports_function s = record { imports = λ t. refl; full = λ t most. inr most }
 
   pub imports_made : {R : Type 0} (old mid new : FunctionBuilder R) (s : ℕ) (answer : Result ℕ BuildError) → HasCurrent old → MakesEntry (ASignature signature) old mid (Ok s)
       → MakesEntry (AFunction (library_function callee s)) mid new answer → ImportsFunction config callee old new answer
@@ -86,8 +109,8 @@ module _ (reads : LedgerIsReadByNumber) (config : TargetFrontendConfig) (callee 
     number = number_is answer next.number;
     knows = known answer next.number next.function;
     made = makes_as old new [] _ _ (λ number. []) answer
-        (makes_then reads old mid new [] _ _ (λ number. []) s (entry_makes (ASignature signature) old mid (Ok s) (λ t. refl) current first) _ _ (λ number. []) answer
-        (entry_makes (AFunction (library_function callee s)) mid new answer (λ t. refl) (first.current current) next))
+        (makes_then reads old mid new [] _ _ (λ number. []) s (entry_makes (ASignature signature) old mid (Ok s) imports_signature current first) _ _ (λ number. []) answer
+        (entry_makes (AFunction (library_function callee s)) mid new answer (imports_function s) (first.current current) next))
         (λ place names. imports config callee old.func.now.tables) no_results
         (λ place names long. (ap (λ (k : ℕ). MakeEntry (ASignature signature) ∷ MakeEntry (AFunction (library_function callee k)) ∷ []) first.number, refl));
   }
@@ -159,10 +182,11 @@ module _ (reads : LedgerIsReadByNumber) (asks : RequestsAskForTheirShapes) where
       subst (λ (t : TableLists). AsksForShape calls old.func.now (call_request t function names) (shapes.call function args) Invalid) stands.ledger.tables
       ((asks_at reads asks signature calls old stands).call_function function names args (all_values calls names args named))
 
-  pub call_made : {R : Type 0} (args : List ℕ) (function : ℕ) (old new : FunctionBuilder R) (answer : Result ℕ BuildError) → HasCurrent old → Builds old new (shapes.call function args) Invalid answer
+  pub call_made : {R : Type 0} (args : List ℕ) (function : ℕ) (old new : FunctionBuilder R) (answer : Result ℕ BuildError) → HasCurrent old
+      → count_of_results old.func.now.tables (shapes.call function args) ≤ 1 → Builds old new (shapes.call function args) Invalid answer
       → Makes args (calls_function old.func.now.tables function) no_results (λ inst. []) old new answer
-  call_made args function old new answer current builds =
-      inst_makes args old new (shapes.call function args) Invalid answer current (call_request old.func.now.tables function) refl refl (call_asked args function old) builds
+  call_made args function old new answer current few builds =
+      inst_makes args old new (shapes.call function args) Invalid answer current (call_request old.func.now.tables function) refl refl few (call_asked args function old) builds
 
   -- how many results a call for its number has
   pub number_is : {R : Type 0} (args : List ℕ) (function inst : ℕ) (old new : FunctionBuilder R) → HasCurrent old → GivesNumber old.func.now.tables function → Builds old new (shapes.call function args) Invalid (Ok inst)
@@ -176,7 +200,7 @@ module _ (reads : LedgerIsReadByNumber) (asks : RequestsAskForTheirShapes) where
   number_made args function inst v old new current gives builds is exists = record {
     typed = (exists, typed);
     made = record {
-      line = line_ok old new inst v (inst_line old new (shapes.call function args) Invalid (Ok inst) current refl refl builds);
+      line = line_ok old new inst v (inst_line old new (shapes.call function args) Invalid (Ok inst) current refl refl (one_result old.func.now.tables function args (gives_one old.func.now.tables function gives)) builds);
       stands = λ signature calls names stands named.
           let asked = call_asked args function old signature calls names stands named in
           record {

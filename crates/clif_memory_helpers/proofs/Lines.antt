@@ -1,9 +1,9 @@
 -- Calls that are made one behind the other in one block.
-use Rattle.std.proofs.Common.{◌≡◌, ◌≤◌, ℕ, true, false, refl, sym, ◌∙◌, ap, subst, arith, pos}
-use Rattle.std.specs.Prelude.{IsTrue, IfSome, length, Option, Result, Ok, Err, OnOk}
+use Rattle.std.proofs.Common.{◌≡◌, ◌≤◌, ◌-◌, ◌^◌, ℕ, inl, inr, true, false, refl, sym, ◌∙◌, ap, subst, arith, pos}
+use Rattle.std.specs.Prelude.{IsTrue, IfSome, length, Option, Result, Ok, Err, OnOk, OnErr}
 use Rattle.std.proofs.lemmas.Option.{same_Some}
 use Rattle.clif_types.specs.declared.error.BuildError.{BuildError}
-use Rattle.clif_types.specs.declared.error.BuildError.TheVariants.{Failed}
+use Rattle.clif_types.specs.declared.error.BuildError.TheVariants.{Failed, Full}
 use Rattle.clif_types.specs.declared.types.«Type».{«Type»}
 use Rattle.clif_types.specs.declared.types.«Type».TheVariants.{Invalid}
 use Rattle.clif_instructions.specs.Instruction.{is_branch, is_terminator}
@@ -11,21 +11,33 @@ use Rattle.clif_instructions.specs.declared.instructions.InstructionData.{Instru
 use Rattle.clif_inst_builder.specs.Shapes as shapes
 use Rattle.clif_ir.specs.Body.{Body}
 use Rattle.clif_ir.specs.Changes.{with_tables}
-use Rattle.clif_tables.specs.Entries.{TableEntry, with_entry}
+use Rattle.clif_tables.specs.Callees.{count_of_results}
+use Rattle.clif_tables.specs.Entries.{TableEntry, count_for, with_entry}
 use Rattle.clif_tables.specs.Lists.{TableLists}
 use Rattle.clif_builder.specs.declared.builder.FunctionBuilder.{FunctionBuilder}
 use Rattle.clif_builder.specs.declared.context.BlockStatus.TheVariants.{Filled}
 use Rattle.clif_builder.specs.Builder.{FillsCurrent, HasCurrent, IsLeft}
-use Rattle.clif_builder.specs.Built.{Builds, BuildsValue}
+use Rattle.clif_builder.specs.Built.{Builds, BuildsValue, HasFullTable}
 use Rattle.clif_builder.specs.Context.{ContextState, FillsNone, status_of}
 use Rattle.clif_builder.specs.Entries.{MakesEntry}
 use Rattle.clif_builder.specs.Growth.{Grows, RemembersIn, TypesStay}
 use Rattle.clif_builder.specs.Keeping.{KeepsState}
 use Rattle.clif_builder.proofs.Keeping.{built_keeps, built_tables, keeps_insts, keeps_none, keeps_on, value_keeps, value_tables}
-use Rattle.clif_memory_helpers.specs.Lines.{InLine, MayImport}
+use Rattle.clif_memory_helpers.specs.Lines.{HelperIsFull, ImportsAreFull, InLine, MayImport}
 
 not_failed : {A : Type 0} (a : A) → Ok a ≡ Err Failed → ⊥
 not_failed a same = cc
+
+not_full : {A : Type 0} {P : Type 0} (a : A) → Ok a ≡ Err Full → P
+not_full a same = cc
+
+failed_not_full : {A : Type 0} {P : Type 0} → ◌≡◌ {A = Result A BuildError} (Err Failed) (Err Full) → P
+failed_not_full same = cc
+
+-- a full table is one that a helper needs
+full_of : {R : Type 0} (old new : FunctionBuilder R) → HasFullTable old → (new.func.now.insts ≡ old.func.now.insts) × (new.func.now.values ≡ old.func.now.values) → HelperIsFull new
+full_of old new (inl full) stays = inl (inl (ap length stays.0 ∙ full))
+full_of old new (inr full) stays = inl (inr (ap length stays.1 ∙ full))
 
 both : {A : Type 0} (P Q R : Type 0) (r : Result A BuildError) → (P → Q → R) → P → OnOk r Q → OnOk r R
 both P Q R (Ok b) make p q = make p q
@@ -86,6 +98,7 @@ module _ {A B : Type 0} {R : Type 0} (old mid new : FunctionBuilder R) (a : A) (
     imports = both (MayImport old.func.now.tables mid.func.now.tables) (MayImport mid.func.now.tables new.func.now.tables) (MayImport old.func.now.tables new.func.now.tables) answer
         (imports_on old.func.now.tables mid.func.now.tables new.func.now.tables) first.imports next.imports;
     current = next.current;
+    full = next.full;
   }
 
 -- another answer of the same kind
@@ -110,10 +123,11 @@ line_ok old new a b line = record {
   keeps = line.keeps;
   imports = line.imports;
   current = line.current;
+  full = λ is. not_full b is;
 }
 
-err_is : {A : Type 0} (e : BuildError) (r : Result A BuildError) → r ≡ Err e → r ≡ Err Failed → e ≡ Failed
-err_is e r one two = let same = sym one ∙ two in cc
+err_is : {A : Type 0} (e y : BuildError) (r : Result A BuildError) → r ≡ Err e → r ≡ Err y → e ≡ y
+err_is e y r one two = let same = sym one ∙ two in cc
 
 pub line_err : {A B : Type 0} {R : Type 0} (old new : FunctionBuilder R) (e : BuildError) → InLine {A = A} old new (Err e) → InLine {A = B} old new (Err e)
 line_err old new e line = record {
@@ -121,7 +135,7 @@ line_err old new e line = record {
     loans = line.call.loans;
     position = line.call.position;
     srcloc = line.call.srcloc;
-    failed = (λ is. line.call.failed.0 (ap Err (err_is e _ refl is)), λ is. ap Err (err_is e _ refl (line.call.failed.1 is)));
+    failed = (λ is. line.call.failed.0 (ap Err (err_is e Failed _ refl is)), λ is. ap Err (err_is e Failed _ refl (line.call.failed.1 is)));
     unchanged = line.call.unchanged;
     fails = line.call.fails;
     looks_once = line.call.looks_once;
@@ -136,6 +150,7 @@ line_err old new e line = record {
   keeps = tt;
   imports = tt;
   current = tt;
+  full = λ is. line.full (ap Err (err_is e Full _ refl is));
 }
 
 open_left : {R : Type 0} (b : FunctionBuilder R) → HasCurrent b → IsLeft b → ⊥
@@ -163,6 +178,7 @@ line_none b a sound current = record {
   keeps = keeps_none b;
   imports = refl;
   current = current;
+  full = λ is. not_full a is;
 }
 
 -- a builder that failed
@@ -187,6 +203,7 @@ line_failed b is = record {
   keeps = tt;
   imports = tt;
   current = tt;
+  full = λ is. failed_not_full is;
 }
 
 module _ {R : Type 0} (old new : FunctionBuilder R) (shape : InstructionData) (ty : «Type») (answer : Result ℕ BuildError) (current : HasCurrent old) where
@@ -230,6 +247,7 @@ module _ {R : Type 0} (old new : FunctionBuilder R) (shape : InstructionData) (t
     keeps = value_kept answer builds;
     imports = value_imports answer builds;
     current = builds.current;
+    full = λ is. full_of old new (builds.full is) (builds.full_stays is);
   }
 
   none_filled : new.position ≡ old.position → FillsCurrent old new → HasCurrent new → FillsNone old.ctx.now.parts new.ctx.now.parts
@@ -240,9 +258,9 @@ module _ {R : Type 0} (old new : FunctionBuilder R) (shape : InstructionData) (t
   over_two P Q R (Ok v) make p q = make p q
   over_two P Q R (Err e) make p q = tt
 
-  -- an instruction that neither branches nor ends its block
-  pub inst_line : is_branch shape ≡ false → is_terminator shape ≡ false → Builds old new shape ty answer → InLine old new answer
-  inst_line stays goes builds = record {
+  -- an instruction that neither branches nor ends its block, and has at most one result
+  pub inst_line : is_branch shape ≡ false → is_terminator shape ≡ false → count_of_results old.func.now.tables shape ≤ 1 → Builds old new shape ty answer → InLine old new answer
+  inst_line stays goes few builds = record {
     call = record {
       loans = builds.loans;
       position = builds.position;
@@ -262,17 +280,19 @@ module _ {R : Type 0} (old new : FunctionBuilder R) (shape : InstructionData) (t
     keeps = inst_kept answer builds;
     imports = inst_imports answer builds;
     current = builds.current goes;
+    full = λ is. full_of old new (builds.full_table few is) (builds.full_stays is);
   }
 
 -- memory was refused
 pub refused_line : {R : Type 0} (old new : FunctionBuilder R) (e : BuildError) → HasCurrent old → ((shape : InstructionData) (ty : «Type») → Builds old new shape ty (Err e))
     → InLine {A = ℕ} old new (Err e)
 refused_line old new e current refused =
-    inst_line old new (shapes.unary_imm (pos 0)) Invalid (Err e) current refl refl (refused (shapes.unary_imm (pos 0)) Invalid)
+    inst_line old new (shapes.unary_imm (pos 0)) Invalid (Err e) current refl refl (omega arith) (refused (shapes.unary_imm (pos 0)) Invalid)
 
 -- a signature or a function was imported
-abbrev pub IsImport : TableEntry → Type 0
-IsImport entry = (t : TableLists) → MayImport t (with_entry t entry)
+pub record IsImport (entry : TableEntry) : Type 0 where
+  pub imports : (t : TableLists) → MayImport t (with_entry t entry)
+  pub full : (t : TableLists) → count_for t entry ≡ 2 ^ 32 - 1 → ImportsAreFull t
 
 pub entry_line : {R : Type 0} (entry : TableEntry) (old new : FunctionBuilder R) (answer : Result ℕ BuildError) → IsImport entry → HasCurrent old → MakesEntry entry old new answer → InLine old new answer
 entry_line entry old new answer imports current makes = record {
@@ -283,12 +303,17 @@ entry_line entry old new answer imports current makes = record {
   keeps = kept answer makes.function makes.remembers;
   imports = imported answer makes.function;
   current = makes.current current;
+  full = λ is. filled answer makes.kept is (makes.full.0 is).1;
 }
   where
+    filled : (r : Result ℕ BuildError) → OnErr r (new.func.now ≡ old.func.now) → r ≡ Err Full → count_for old.func.now.tables entry ≡ 2 ^ 32 - 1 → HelperIsFull new
+    filled (Ok number) kept is most = not_full number is
+    filled (Err e) kept is most = inr (imports.full new.func.now.tables (ap (λ (f : Body). count_for f.tables entry) kept ∙ most))
+
     kept : (r : Result ℕ BuildError) → OnOk r (new.func.now ≡ with_tables old.func.now (with_entry old.func.now.tables entry)) → ((x b : ℕ) → OnOk r (RemembersIn x b old new)) → OnOk r (KeepsState old new)
     kept (Ok number) is remembers = keeps_insts old new (ap (λ (f : Body). f.insts) is) (ap (λ (c : ContextState). c.ssa.tracking) makes.context) remembers
     kept (Err e) is remembers = tt
 
     imported : (r : Result ℕ BuildError) → OnOk r (new.func.now ≡ with_tables old.func.now (with_entry old.func.now.tables entry)) → OnOk r (MayImport old.func.now.tables new.func.now.tables)
-    imported (Ok number) is = subst (λ (f : Body). MayImport old.func.now.tables f.tables) (sym is) (imports old.func.now.tables)
+    imported (Ok number) is = subst (λ (f : Body). MayImport old.func.now.tables f.tables) (sym is) (imports.imports old.func.now.tables)
     imported (Err e) is = tt

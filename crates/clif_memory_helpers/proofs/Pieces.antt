@@ -143,7 +143,7 @@ module _ (reads : LedgerIsReadByNumber) (asks : RequestsAskForTheirShapes) (acce
       (makes_push reads old mid new (target ∷ values) (stores accesses flags i) no_results no_values tt so
       (λ place names. building (doing (Store flags (pos (i * bytes))) ty (nth names (suc i) ∷ nth names 0 ∷ [])) ∷ []) no_results (λ number. []) inst tt no_values refl
       (inst_makes (target ∷ values) mid new (shapes.store flags value target (pos (i * bytes))) Invalid (Ok inst) so.line.current
-      (λ names. building (doing (Store flags (pos (i * bytes))) ty (nth names (suc i) ∷ nth names 0 ∷ []))) refl refl asked builds))
+      (λ names. building (doing (Store flags (pos (i * bytes))) ty (nth names (suc i) ∷ nth names 0 ∷ []))) refl refl (omega arith) asked builds))
       (stores accesses flags n) no_results (λ place names long. (calls_are place names (ap-pred names long), refl))
     where
       value : ℕ

@@ -1,8 +1,9 @@
 -- Calls that are made one behind the other in one block, what they make of a builder, and what it stands for then. Own.
-use Rattle.std.specs.Prelude.{◌≡◌, ◌<◌, ◌+◌, ◌-◌, ℕ, List, [], ◌∷◌, ◌++◌, length, slice_index_or, Result, IfOk, OnOk}
+use Rattle.std.specs.Prelude.{◌≡◌, ◌⊎◌, ◌<◌, ◌+◌, ◌-◌, ◌^◌, ℕ, List, [], ◌∷◌, ◌++◌, length, slice_index_or, Result, Err, IfOk, OnOk}
 use Rattle.std.specs.List.{AllZip}
 use Rattle.clif_types.specs.Signature.{SignatureShape}
 use Rattle.clif_types.specs.declared.error.BuildError.{BuildError}
+use Rattle.clif_types.specs.declared.error.BuildError.TheVariants.{Full}
 use Rattle.clif_types.specs.declared.types.«Type».{«Type»}
 use Rattle.clif_ir.specs.Body.{value_at}
 use Rattle.clif_tables.specs.Lists.{TableLists}
@@ -10,6 +11,7 @@ use Rattle.clif_meaning.specs.Name.{Name, answer_of}
 use Rattle.clif_meaning.specs.Request.{AnsweredCall, Script, script_of}
 use Rattle.clif_builder.specs.declared.builder.FunctionBuilder.{FunctionBuilder}
 use Rattle.clif_builder.specs.Builder.{HasCurrent}
+use Rattle.clif_builder.specs.Built.{HasFullTable}
 use Rattle.clif_builder.specs.Calls.{IsCall}
 use Rattle.clif_builder.specs.Growth.{Grows}
 use Rattle.clif_builder.specs.Keeping.{KeepsState}
@@ -19,6 +21,14 @@ use Rattle.clif_builder.specs.StandsFor.{StandsFor}
 -- all tables stay, but those of signatures and functions, in which there may be more
 abbrev pub MayImport : TableLists → TableLists → Type 0
 MayImport t u = u ≡ record t { signatures = u.signatures; functions = u.functions }
+
+-- the table of signatures or that of functions holds as many entries as it can
+abbrev pub ImportsAreFull : TableLists → Type 0
+ImportsAreFull t = (length t.signatures ≡ 2 ^ 32 - 1) ⊎ (length t.functions ≡ 2 ^ 32 - 1)
+
+-- a table is full that a helper needs: one of these, or that of values or of instructions
+abbrev pub HelperIsFull : {R : Type 0} → FunctionBuilder R → Type 0
+HelperIsFull b = HasFullTable b ⊎ ImportsAreFull b.func.now.tables
 
 -- Calls were made one behind the other, whatever the last one answers, and none made a branch or ended a block: as of one call that may
 -- fail. One can build on behind them.
@@ -30,6 +40,8 @@ pub record InLine {A : Type 0} {R : Type 0} (old new : FunctionBuilder R) (answe
   pub keeps : OnOk answer (KeepsState old new)
   pub imports : OnOk answer (MayImport old.func.now.tables new.func.now.tables)
   pub current : OnOk answer (HasCurrent new)
+  -- where an error says so, a table that a helper needs is full
+  pub full : answer ≡ Err Full → HelperIsFull new
 
 -- the value is there, and has this type
 abbrev pub HasType : {R : Type 0} → FunctionBuilder R → ℕ → «Type» → Type 0

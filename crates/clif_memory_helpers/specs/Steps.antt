@@ -158,6 +158,10 @@ CallsFunction function values old new answer = MakesLine values (calls_function 
 abbrev pub CallsForNumber : {R : Type 0} (function : ℕ) → List ℕ → FunctionBuilder R → FunctionBuilder R → Result ℕ BuildError → Type 0
 CallsForNumber function values old new answer = MakesTyped i32 values (calls_function old.func.now.tables function) first_result old new answer
 
+-- one value is returned
+abbrev pub GivesOne : TableLists → (function : ℕ) → Type 0
+GivesOne tables function = length (signature_at tables (function_at tables function).signature).returns ≡ 1
+
 -- it gives one I32
 abbrev pub GivesNumber : TableLists → (function : ℕ) → Type 0
 GivesNumber tables function = types_of (signature_at tables (function_at tables function).signature).returns ≡ i32 ∷ []

@@ -5,7 +5,7 @@ ghost use Rattle.std.specs.Prelude.{◌≡◌, ◌<◌, [], ◌∷◌, length, A
 ghost use Rattle.clif_builder.specs.Builder.{HasCurrent};
 ghost use Rattle.clif_helper_calls.specs.LibraryCodes.{copying_function};
 ghost use Rattle.clif_memory_helpers.specs.Helpers.{library_signature};
-ghost use Rattle.clif_memory_helpers.specs.Steps.{CallsForNumber, CallsFunction, ComparesKnown, ComparesSized, CopiesKnown, CopiesSized, FillsKnown, FillsSized, GivesNumber, ImportsFunction};
+ghost use Rattle.clif_memory_helpers.specs.Steps.{CallsForNumber, CallsFunction, ComparesKnown, ComparesSized, CopiesKnown, CopiesSized, FillsKnown, FillsSized, GivesNumber, GivesOne, ImportsFunction};
 
 use clif_builder::laws::{ledger_is_read_by_number, requests_ask_for_their_shapes};
 use clif_builder::{FunctionBuilder, InstBuilder, InstBuilderBase};
@@ -207,6 +207,7 @@ fn call_library<R>(
     requires current { HasCurrent bx.old }
     requires function_exists { function < length bx.old.func.now.tables.functions }
     requires args_exist { All (λ value. value < length bx.old.func.now.values) args.now }
+    requires gives { GivesOne bx.old.func.now.tables function }
     ensures { CallsFunction function args.now bx.old bx.new result }
 {
     ledger_is_read_by_number();

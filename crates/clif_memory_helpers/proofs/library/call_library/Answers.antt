@@ -4,10 +4,11 @@ use Rattle.std.specs.Prelude.{Ok}
 use Rattle.clif_memory_helpers.specs.Lines.{no_results, no_values}
 use Rattle.clif_memory_helpers.specs.Steps.{calls_function}
 use Rattle.clif_memory_helpers.proofs.Chains.{makes_ok}
-use Rattle.clif_memory_helpers.proofs.LibraryCalls.{call_made}
+use Rattle.clif_memory_helpers.proofs.LibraryCalls.{call_made, one_result}
 use Rattle.clif_memory_helpers.proofs.library.call_library.Goals as goal
 
 pub returns : goal.returns
 returns g c =
     makes_ok c.args.bx.now c.call.new.self c.args.args.now (calls_function c.args.bx.now.func.now.tables c.args.function) no_results c.in_ok-call.field-0 (λ inst. []) (tt {0}) no_values refl
-    (call_made c.ledger_is_read_by_number.ensures c.requests_ask_for_their_shapes.ensures c.args.args.now c.args.function c.args.bx.now c.call.new.self (Ok c.in_ok-call.field-0) c.requires.current c.in_ok-call.ensures.built)
+    (call_made c.ledger_is_read_by_number.ensures c.requests_ask_for_their_shapes.ensures c.args.args.now c.args.function c.args.bx.now c.call.new.self (Ok c.in_ok-call.field-0) c.requires.current
+    (one_result c.args.bx.now.func.now.tables c.args.function c.args.args.now c.requires.gives) c.in_ok-call.ensures.built)
