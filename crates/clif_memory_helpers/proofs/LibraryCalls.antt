@@ -11,7 +11,7 @@ use Rattle.clif_types.specs.declared.error.BuildError.{BuildError}
 use Rattle.clif_types.specs.declared.extfunc.ExtFuncData.{ExtFuncData}
 use Rattle.clif_types.specs.declared.extname.ExternalName.{ExternalName}
 use Rattle.clif_types.specs.declared.libcall.LibCall.{LibCall}
-use Rattle.clif_types.specs.declared.libcall.LibCall.TheVariants.{Memcpy, Memmove, Memset, Memcmp}
+use Rattle.clif_types.specs.declared.libcall.LibCall.TheVariants.{Memcmp, Memset}
 use Rattle.clif_types.specs.declared.target.TargetFrontendConfig.{TargetFrontendConfig}
 use Rattle.clif_types.specs.declared.types.«Type».{«Type»}
 use Rattle.clif_types.specs.declared.types.«Type».TheVariants.{Invalid}
@@ -80,16 +80,6 @@ one_result tables function args gives = omega (arith, gives)
 
 pub gives_one : (tables : TableLists) (function : ℕ) → GivesNumber tables function → GivesOne tables function
 gives_one tables function gives = sym (length-map (signature_at tables (function_at tables function).signature).returns _) ∙ ap length gives
-
--- functions of the C library do
-pub library_gives_one : (tables : TableLists) (config : TargetFrontendConfig) (callee : LibCall) (function : ℕ) → KnowsFunction tables callee (library_signature config callee) function → GivesOne tables function
-library_gives_one tables config callee function knows = ap (λ (s : SignatureShape). length s.returns) knows.signature_is ∙ by callee
-  where
-    by : (callee : LibCall) → length (library_signature config callee).returns ≡ 1
-    by Memcpy = refl
-    by Memmove = refl
-    by Memset = refl
-    by Memcmp = refl
 
 -- IMPORTS -----------------------------------------------------------------------------------------------------------------
 
