@@ -2,6 +2,7 @@
 pub mod OpenSources
 pub mod MovedAlike
 pub mod OpenCalling
+pub mod UnmarkedMoves
 pub mod MarkedReading
 pub mod RecordedReading
 pub mod MarkedRow

@@ -1,9 +1,11 @@
 -- The laws of the unfinished function of a builder that stands for a list of calls, as the contracts of this crate's law
 -- functions state them. Own.
-use Rattle.std.specs.Prelude.{ℕ, List, Option}
+use Rattle.std.specs.Prelude.{ℕ, ◌⊎◌, Bool, List, Option}
 use Rattle.clif_types.specs.Signature.{SignatureShape}
 use Rattle.clif_ir.specs.Body.{Body}
 use Rattle.clif_ir.specs.Consistent.{IsConsistent}
+use Rattle.clif_meaning.specs.FunctionMachine.{Collector}
+use Rattle.clif_meaning.specs.Name.{Name}
 use Rattle.clif_meaning.specs.Request.{AnsweredCall}
 use Rattle.clif_meaning.specs.View.{view_of}
 use Rattle.clif_meaning.specs.WellPlaced.{program_code, IsWellPlaced, Records, RecordsWellPlaced, WellPlaced}
@@ -11,12 +13,12 @@ use Rattle.clif_simulation.specs.Tables.{program_so_far}
 use Rattle.clif_simulation.specs.Carries.{NothingLeads}
 use Rattle.clif_ssa.specs.Sound.{EntryIsFree}
 use Rattle.clif_simulation.specs.Structure.{AreRecords}
-use Rattle.clif_simulation.specs.Reading.{may_grow, ReadsRightFromAnywhere}
+use Rattle.clif_simulation.specs.Reading.{may_grow, MovesNothing, MovesTracked, ReadsRightFromAnywhere}
 use Rattle.clif_simulation.specs.Interrupted.{ReadsRight}
 use Rattle.clif_simulation.specs.Coming.{Coming, MayCome, ReadsRightComing, function_coming}
 use Rattle.clif_builder.specs.Context.{ContextState}
 use Rattle.clif_builder.specs.StandsFor.{StandsIn}
-use Rattle.clif_standing_laws.specs.Marked.{ReadsRightMarked, ReadsRightMarkedComing, ReadsRightMarkedFromAnywhere, ReadsRightRecorded, ReadsRightRecordedComing, ReadsRightRecordedFromAnywhere}
+use Rattle.clif_standing_laws.specs.Marked.{MovesAsMarked, ReadsRightMarked, ReadsRightMarkedComing, ReadsRightMarkedFromAnywhere, ReadsRightRecorded, ReadsRightRecordedComing, ReadsRightRecordedFromAnywhere}
 
 -- Where the parts of a builder stand for a list of calls, they read right on runs and bits, with any branches and parameters of
 -- the caller's: beside a run of the list's program that is interrupted at unsealed blocks, a run of the unfinished function has
@@ -83,6 +85,15 @@ StandingReadsRightMarkedFromAnywhere =
     (declared : SignatureShape) (calls : List AnsweredCall) (f : Body) (c : ContextState) (position : Option ℕ)
     → IsConsistent f → (stands : StandsIn declared calls f c position) → NothingLeads c.ssa
     → ReadsRightMarkedFromAnywhere calls stands.carries.own declared f c.ssa
+
+-- What moves where no variable is marked agrees with the marks of the calls: nothing, or tracked names that are apart from variables,
+-- and exactly the values that answered them. So the laws under marks cover each outside call that the laws without them do.
+abbrev pub StandingUnmarkedAgrees : Type 0
+StandingUnmarkedAgrees =
+    (declared : SignatureShape) (calls : List AnsweredCall) (f : Body) (c : ContextState) (position : Option ℕ)
+    → IsConsistent f → (stands : StandsIn declared calls f c position) → EntryIsFree f c.ssa
+    → (tracked : Name → Bool) (collector : Collector) → MovesNothing calls tracked collector ⊎ MovesTracked calls tracked collector
+    → MovesAsMarked calls stands.carries.own f c.ssa tracked collector
 
 -- What is recorded so far agrees with the marks of the calls. So under a collector over exactly that they read right, whatever calls
 -- ask stack maps for.

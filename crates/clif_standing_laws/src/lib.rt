@@ -3,7 +3,7 @@
 //! and their contracts are the laws.
 #![tactic(auto)]
 
-ghost use Rattle.clif_standing_laws.specs.Laws.{StandingIsWellPlaced, StandingIsWellPlacedComing, StandingReadsRight, StandingReadsRightComing, StandingReadsRightFromAnywhere, StandingReadsRightMarked, StandingReadsRightMarkedComing, StandingReadsRightMarkedFromAnywhere, StandingReadsRightRecorded, StandingReadsRightRecordedComing, StandingReadsRightRecordedFromAnywhere, StandingRecordsAreWellPlaced};
+ghost use Rattle.clif_standing_laws.specs.Laws.{StandingIsWellPlaced, StandingIsWellPlacedComing, StandingReadsRight, StandingReadsRightComing, StandingReadsRightFromAnywhere, StandingReadsRightMarked, StandingReadsRightMarkedComing, StandingReadsRightMarkedFromAnywhere, StandingReadsRightRecorded, StandingReadsRightRecordedComing, StandingReadsRightRecordedFromAnywhere, StandingRecordsAreWellPlaced, StandingUnmarkedAgrees};
 ghost use Rattle.clif_standing_laws.specs.MarkedComingExamples.{MarkedComingExamples};
 ghost use Rattle.clif_standing_laws.specs.MarkedExamples.{MarkedExamples};
 ghost use Rattle.clif_standing_laws.specs.MovingExamples.{MovingExamples};
@@ -39,6 +39,12 @@ pub fn standing_reads_right_marked_coming()
 /// Where no branch was made, it has them from every pair of states at the front of an unsealed entry.
 pub fn standing_reads_right_marked_from_anywhere()
     ensures { StandingReadsRightMarkedFromAnywhere }
+{}
+
+/// What moves where no variable is marked agrees with the marks of the calls: nothing, or tracked names that are apart from variables,
+/// and exactly the values that answered them.
+pub fn standing_unmarked_agrees()
+    ensures { StandingUnmarkedAgrees }
 {}
 
 /// What was recorded for stack maps so far agrees with the marks of the calls: so it has them under a collector over exactly that,

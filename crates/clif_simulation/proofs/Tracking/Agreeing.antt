@@ -145,6 +145,127 @@ both_true : (a b : Bool) → (a && b) ≡ true → a ≡ true
 both_true true b is = refl
 both_true false b is = is
 
+-- WHATEVER IS MARKED -------------------------------------------------------------------------------------------------------
+
+module _ (calls : List AnsweredCall) (f : Body) (s : SsaState) (consistent : IsConsistent f) (carries : Whole calls f s) where
+  abbrev values : Function
+  values = carries.tables.function
+
+  itself_here : (v : ℕ) → resolved f v ≡ v → values.resolve v ≡ v
+  itself_here v itself = carries.describes.resolves v ∙ itself
+
+  -- a use of a variable, for one
+  abbrev IsUseOf : Item → Type 0
+  IsUseOf (Instruct place instruction results) = Unit {0}
+  IsUseOf (Use x name) = AnswersUse (script_of calls) x name
+  IsUseOf (Assign x name) = Unit {0}
+
+  uses : (block : Name) → AllByRecursion IsUseOf ((program_so_far calls).items block)
+  uses = each_comes IsUseOf calls (λ place instruction results. tt) (λ x name from. from) (λ x name from. tt)
+
+  -- NAMES THAT ARE GIVEN AFRESH -----------------------------------------------------------------------------------------
+
+  module _ (n : Name) (is_fresh : IsGivenFresh (program_so_far calls) n) where
+    known : (carries.tables.answer (code n) ≡ answered calls n) × (n.place < length calls) × ((carries.tables.naming (code n)).home ≢ start)
+    known = value_answered calls carries.tables n carries.program carries.values_given (fresh_value calls n is_fresh)
+
+    origin_fresh : (carries.tables.naming (code n)).origin ≡ fresh
+    origin_fresh = by (carries.tables.naming (code n)).origin refl
+      where
+        by : (o : Origin) → (carries.tables.naming (code n)).origin ≡ o → (carries.tables.naming (code n)).origin ≡ fresh
+        by fresh is = is
+        by (reads x) is =
+            let r = read_item calls carries.tables carries.program n known.2 x is in
+            absurd (fresh_no_use calls n is_fresh x (all_at IsUseOf ((program_so_far calls).items r.block) r.index (Use x n) (uses r.block) r.stands))
+
+    pub born_here : (values.definition (answered calls n) ≡ record { home = (carries.tables.naming (code n)).home; kind = born (code n) })
+        × (resolved f (answered calls n) ≡ answered calls n)
+    born_here =
+        let there = carries.describes.born_there (code n) known.2 origin_fresh in (
+          subst (λ (v : ℕ). values.definition v ≡ record { home = (carries.tables.naming (code n)).home; kind = born (code n) }) known.0 there.0,
+          subst (λ (v : ℕ). resolved f v ≡ v) known.0 there.1,
+        )
+
+  module _ (target branch edge place argument parameter : ℕ) (leads : Contains (predecessors_of s target) branch)
+      (to : edge_target f branch edge ≡ Some target)
+      (passes : passed_at f branch edge (length (carries.own.passed branch edge) + place) ≡ Some (Value argument))
+      (stands : slice_get (block_at f target).params (length (carries.own.params target) + place) ≡ Some parameter)
+    where
+      abbrev params : List ℕ
+      params = (block_at f target).params
+
+      passes_no_more : is_yes (sealed_of s target) ≡ false → ⊥
+      passes_no_more unsealed =
+          let has : HasParameters carries.own f s [] target = (carries.structured (declared_types calls) (are_declared calls)).parameters target in
+          let passed = has.edges branch edge leads to in
+          let none : has.complete ≡ [] = none_complete has.complete (λ some. true_no_false (sym (has.several some).0 ∙ unsealed)) in
+          none_there (carries.own.passed branch edge) passed.values place argument
+          (for_none f passed.values (subst (AreFor f passed.values) none passed.are_for))
+          (ap (λ (args : List BlockArg). slice_get args (length (carries.own.passed branch edge) + place)) (sym passed.in_order) ∙ passes)
+
+      pub home : param_home f parameter ≡ Some target
+      home =
+          stands_home f consistent parameter target (
+            length (carries.own.params target) + place,
+            slice_get_within params (length (carries.own.params target) + place) parameter stands,
+            index_at params (length (carries.own.params target) + place) parameter stands,
+          )
+
+      pub itself : resolved f parameter ≡ parameter
+      itself = unaliased_home f parameter target home
+
+      pub place_is : place_of parameter params ≡ length (carries.own.params target) + place
+      place_is =
+          one_place params (place_of parameter params) (length (carries.own.params target) + place) parameter (consistent.params_once target)
+          (place_stands parameter params (stands_place parameter params (home_stands f consistent parameter target home))) stands
+
+      pub is_complete : (x : ℕ) × (values.definition parameter ≡ record { home = front target; kind = complete x })
+      is_complete =
+          IntoBlock.parameter_complete calls f s consistent carries target (by (is_yes (sealed_of s target)) refl) parameter home (omega (arith, place_is))
+        where
+          -- an edge into an unsealed block passes what the caller passed alone
+          by : (t : Bool) → is_yes (sealed_of s target) ≡ t → pending_of (sealed_of s target) ≡ []
+          by true is = sealed_none (sealed_of s target) is
+          by false is = absurd (passes_no_more is)
+
+      abbrev arm : Arm
+      arm = record { source = last_place carries.tables (branch_block f branch); target = front target; edge = edge }
+
+      abbrev into : IsEdgeInto f s carries.tables target arm
+      into = record { branch = branch; leads = leads; from = refl; to = to }
+
+      is_sealed : is_yes (sealed_of s target) ≡ true
+      is_sealed =
+          let fits : HomeFits carries.tables parameter (complete is_complete.0) =
+          subst (HomeFits carries.tables parameter) (ap (λ (d : Definition). d.kind) is_complete.1) (carries.describes.homes parameter) in
+          let same : fits.0 ≡ target = front_same fits.0 target (sym fits.1 ∙ ap (λ (d : Definition). d.home) is_complete.1) in
+          both_true (is_yes (sealed_of s target)) (has_entry f.layout)
+          (sym (carries.describes.sealed target) ∙ ap (λ (b : ℕ). carries.tables.sealed b) (sym same) ∙ fits.2)
+        where
+          front_same : (b c : ℕ) → front b ≡ front c → b ≡ c
+          front_same b c h = cc
+
+      argument_is : values.argument parameter arm ≡ argument
+      argument_is =
+          same_value (values.argument parameter arm) argument
+          (sym (carries.describes.passes target parameter arm into is_complete.1 refl (length (carries.own.passed branch edge) + place)
+          (omega (arith, place_is))) ∙ passes)
+        where
+          same_value : (a b : ℕ) → Some (Value a) ≡ Some (Value b) → a ≡ b
+          same_value a b h = cc
+
+      -- the argument has the label of the parameter's variable, whatever labels are kept
+      pub argument_label : (of_variable of_name : ℕ → ℕ) → LabelsKept carries.tables of_variable of_name
+          → label_by of_variable of_name (values.definition (resolved f argument)).kind ≡ Some (of_variable is_complete.0)
+      argument_label of_variable of_name kept =
+          ap (λ (v : ℕ). label_by of_variable of_name (values.definition v).kind) (sym (carries.describes.resolves argument))
+          ∙ ap (λ (v : ℕ). label_by of_variable of_name (values.definition (values.resolve v)).kind)
+          (sym argument_is ∙ ap (λ (v : ℕ). values.argument v arm) (sym (itself_here parameter itself)))
+          ∙ (kept.arguments parameter target arm
+          (ap (λ (v : ℕ). (values.definition v).kind) (itself_here parameter itself) ∙ ap (λ (d : Definition). d.kind) is_complete.1)
+          (ap (λ (v : ℕ). (values.definition v).home) (itself_here parameter itself) ∙ ap (λ (d : Definition). d.home) is_complete.1)
+          refl (carries.describes.led target arm is_sealed refl into)).by_kind
+
 -- THE LABELS OF MARKS ------------------------------------------------------------------------------------------------------
 
 module _ (calls : List AnsweredCall) (f : Body) (s : SsaState) (consistent : IsConsistent f) (carries : Whole calls f s)
@@ -205,9 +326,6 @@ module _ (calls : List AnsweredCall) (f : Body) (s : SsaState) (consistent : IsC
     kept : LabelsKept carries.tables of_variable of_name
     kept = carries.sound.labelled.kept of_variable of_name agree
 
-    itself_here : (v : ℕ) → resolved f v ≡ v → function.resolve v ≡ v
-    itself_here v itself = carries.describes.resolves v ∙ itself
-
     -- MEMBERS -------------------------------------------------------------------------------------------------------------
 
     abbrev label_of : ℕ → Option ℕ
@@ -217,7 +335,7 @@ module _ (calls : List AnsweredCall) (f : Body) (s : SsaState) (consistent : IsC
     asked_label : (v : ℕ) → resolved f v ≡ v → IsAskedFor calls s v → label_of v ≡ Some 1
     asked_label v itself a =
         let known = value_answered calls carries.tables a.name carries.program carries.values_given (is_value a.how) in
-        ap (λ (w : ℕ). label_of w) (sym (ap function.resolve (known.0 ∙ a.answers) ∙ itself_here v itself))
+        ap (λ (w : ℕ). label_of w) (sym (ap function.resolve (known.0 ∙ a.answers) ∙ itself_here calls f s consistent carries v itself))
         ∙ (kept.answers (code a.name) known.2).by_kind
         ∙ ap (λ (label : ℕ). Some label) (of_code a.name ∙ true_flag (tracked a.name) (asked_tracked (script_of calls) a.name (how a.how)))
       where
@@ -234,8 +352,8 @@ module _ (calls : List AnsweredCall) (f : Body) (s : SsaState) (consistent : IsC
     -- a parameter is a member exactly if its variable is marked
     pub parameter_member : (v x : ℕ) → resolved f v ≡ v → IsParameterFor carries.tables v x → members v ≡ marked x
     parameter_member v x itself p =
-        same_bool (members v) (marked x) (λ is. by (carries.tracked.only v (itself_here v itself) is))
-        (λ is. carries.tracked.parameters v (itself_here v itself) (x, p, subst IsTrue (marks x) is))
+        same_bool (members v) (marked x) (λ is. by (carries.tracked.only v (itself_here calls f s consistent carries v itself) is))
+        (λ is. carries.tracked.parameters v (itself_here calls f s consistent carries v itself) (x, p, subst IsTrue (marks x) is))
       where
         same_variable : (k : Kind) (y : ℕ) → (k ≡ pending x) ⊎ (k ≡ complete x) → (k ≡ pending y) ⊎ (k ≡ complete y) → y ≡ x
         same_variable k y (inl a) (inl b) = cc
@@ -257,7 +375,7 @@ module _ (calls : List AnsweredCall) (f : Body) (s : SsaState) (consistent : IsC
     born_member : (n : Name) (w : ℕ) → resolved f w ≡ w → (function.definition w).kind ≡ born (code n) → IsGivenFresh (program_so_far calls) n
         → answered calls n ≡ w → members w ≡ tracked n
     born_member n w itself kind is_fresh answers =
-        same_bool (members w) (tracked n) (λ is. by (carries.tracked.only w (itself_here w itself) is)) (λ is. back (why_tracked (script_of calls) n is))
+        same_bool (members w) (tracked n) (λ is. by (carries.tracked.only w (itself_here calls f s consistent carries w itself) is)) (λ is. back (why_tracked (script_of calls) n is))
       where
         by : IsMarkedParameter carries.tables s w ⊎ IsAskedFor calls s w → IsTrue (tracked n)
         by (inl q) = absurd (kinds_apart_born (code n) q.0 (subst (λ (k : Kind). (k ≡ pending q.0) ⊎ (k ≡ complete q.0)) kind q.1))
@@ -271,43 +389,11 @@ module _ (calls : List AnsweredCall) (f : Body) (s : SsaState) (consistent : IsC
         back (inl (inr h)) = carries.tracked.asked w (record { name = n; answers = answers; how = inr (h.0, h.1, subst IsTrue (marks h.0) h.2) })
         back (inr used) = absurd (fresh_no_use calls n is_fresh used.0 used.1)
 
-    -- a use of a variable, for one
-    abbrev IsUseOf : Item → Type 0
-    IsUseOf (Instruct place instruction results) = Unit {0}
-    IsUseOf (Use x name) = AnswersUse (script_of calls) x name
-    IsUseOf (Assign x name) = Unit {0}
-
-    uses : (block : Name) → AllByRecursion IsUseOf ((program_so_far calls).items block)
-    uses = each_comes IsUseOf calls (λ place instruction results. tt) (λ x name from. from) (λ x name from. tt)
-
-    -- NAMES THAT ARE GIVEN AFRESH -----------------------------------------------------------------------------------------
-
-    module _ (n : Name) (is_fresh : IsGivenFresh (program_so_far calls) n) where
-      known : (carries.tables.answer (code n) ≡ answered calls n) × (n.place < length calls) × ((carries.tables.naming (code n)).home ≢ start)
-      known = value_answered calls carries.tables n carries.program carries.values_given (fresh_value calls n is_fresh)
-
-      origin_fresh : (carries.tables.naming (code n)).origin ≡ fresh
-      origin_fresh = by (carries.tables.naming (code n)).origin refl
-        where
-          by : (o : Origin) → (carries.tables.naming (code n)).origin ≡ o → (carries.tables.naming (code n)).origin ≡ fresh
-          by fresh is = is
-          by (reads x) is =
-              let r = read_item calls carries.tables carries.program n known.2 x is in
-              absurd (fresh_no_use calls n is_fresh x (all_at IsUseOf ((program_so_far calls).items r.block) r.index (Use x n) (uses r.block) r.stands))
-
-      born_here : (function.definition (answered calls n) ≡ record { home = (carries.tables.naming (code n)).home; kind = born (code n) })
-          × (resolved f (answered calls n) ≡ answered calls n)
-      born_here =
-          let there = carries.describes.born_there (code n) known.2 origin_fresh in (
-            subst (λ (v : ℕ). function.definition v ≡ record { home = (carries.tables.naming (code n)).home; kind = born (code n) }) known.0 there.0,
-            subst (λ (v : ℕ). resolved f v ≡ v) known.0 there.1,
-          )
-
     -- VALUES AGREE --------------------------------------------------------------------------------------------------------
 
     fresh_agrees : (n : Name) → IsGivenFresh (program_so_far calls) n → members (resolved f (answered calls n)) ≡ tracked n
     fresh_agrees n is_fresh =
-        let here = born_here n is_fresh in
+        let here = born_here calls f s consistent carries n is_fresh in
         ap members here.1 ∙ born_member n (answered calls n) here.1 (ap (λ (d : Definition). d.kind) here.0) is_fresh refl
 
     -- what has the label of a variable is a member exactly if the variable is marked, or is a zero that the construction put
@@ -337,7 +423,7 @@ module _ (calls : List AnsweredCall) (f : Body) (s : SsaState) (consistent : IsC
           no_parameter = no_parameter y kind;
           no_answer = λ n is_fresh same.
               zero_not_born y (code n)
-              (sym kind ∙ ap (λ (v : ℕ). (function.definition v).kind) (sym same) ∙ ap (λ (d : Definition). d.kind) (born_here n is_fresh).0);
+              (sym kind ∙ ap (λ (v : ℕ). (function.definition v).kind) (sym same) ∙ ap (λ (d : Definition). d.kind) (born_here calls f s consistent carries n is_fresh).0);
         })
         by (born n) kind fits =
             let g = is_named calls carries.tables carries.program n (λ none. fits.2 (sym (ap (λ (m : Naming). m.home) fits.0) ∙ none)) in
@@ -351,92 +437,21 @@ module _ (calls : List AnsweredCall) (f : Body) (s : SsaState) (consistent : IsC
             (sym (of_code g.name)
             ∙ some_label (of_name (code g.name)) (flag (marked x)) (sym (ap (label_by of_variable of_name) of_name_kind) ∙ label)))
 
-    module _ (target branch edge place argument parameter : ℕ) (leads : Contains (predecessors_of s target) branch)
-        (to : edge_target f branch edge ≡ Some target)
-        (passes : passed_at f branch edge (length (carries.own.passed branch edge) + place) ≡ Some (Value argument))
-        (stands : slice_get (block_at f target).params (length (carries.own.params target) + place) ≡ Some parameter)
+    argument_agrees : (target branch edge place argument parameter : ℕ) → Contains (predecessors_of s target) branch → edge_target f branch edge ≡ Some target
+        → passed_at f branch edge (length (carries.own.passed branch edge) + place) ≡ Some (Value argument)
+        → slice_get (block_at f target).params (length (carries.own.params target) + place) ≡ Some parameter
+        → (members (resolved f argument) ≡ members (resolved f parameter)) ⊎ IsPut calls f (resolved f argument)
+    argument_agrees target branch edge place argument parameter leads to passes stands =
+        by (labelled_member (resolved f argument) (is_complete calls f s consistent carries target branch edge place argument parameter leads to passes stands).0 (resolved_twice f argument consistent)
+        (argument_label calls f s consistent carries target branch edge place argument parameter leads to passes stands of_variable of_name kept
+        ∙ ap (λ (l : ℕ). Some l) (variable_is (is_complete calls f s consistent carries target branch edge place argument parameter leads to passes stands).0)))
       where
-        abbrev params : List ℕ
-        params = (block_at f target).params
-
-        passes_no_more : is_yes (sealed_of s target) ≡ false → ⊥
-        passes_no_more unsealed =
-            let has : HasParameters carries.own f s [] target = (carries.structured (declared_types calls) (are_declared calls)).parameters target in
-            let passed = has.edges branch edge leads to in
-            let none : has.complete ≡ [] = none_complete has.complete (λ some. true_no_false (sym (has.several some).0 ∙ unsealed)) in
-            none_there (carries.own.passed branch edge) passed.values place argument
-            (for_none f passed.values (subst (AreFor f passed.values) none passed.are_for))
-            (ap (λ (args : List BlockArg). slice_get args (length (carries.own.passed branch edge) + place)) (sym passed.in_order) ∙ passes)
-
-        home : param_home f parameter ≡ Some target
-        home =
-            stands_home f consistent parameter target (
-              length (carries.own.params target) + place,
-              slice_get_within params (length (carries.own.params target) + place) parameter stands,
-              index_at params (length (carries.own.params target) + place) parameter stands,
-            )
-
-        itself : resolved f parameter ≡ parameter
-        itself = unaliased_home f parameter target home
-
-        place_is : place_of parameter params ≡ length (carries.own.params target) + place
-        place_is =
-            one_place params (place_of parameter params) (length (carries.own.params target) + place) parameter (consistent.params_once target)
-            (place_stands parameter params (stands_place parameter params (home_stands f consistent parameter target home))) stands
-
-        is_complete : (x : ℕ) × (function.definition parameter ≡ record { home = front target; kind = complete x })
-        is_complete =
-            IntoBlock.parameter_complete calls f s consistent carries target (by (is_yes (sealed_of s target)) refl) parameter home (omega (arith, place_is))
-          where
-            -- an edge into an unsealed block passes what the caller passed alone
-            by : (t : Bool) → is_yes (sealed_of s target) ≡ t → pending_of (sealed_of s target) ≡ []
-            by true is = sealed_none (sealed_of s target) is
-            by false is = absurd (passes_no_more is)
-
-        abbrev arm : Arm
-        arm = record { source = last_place carries.tables (branch_block f branch); target = front target; edge = edge }
-
-        abbrev into : IsEdgeInto f s carries.tables target arm
-        into = record { branch = branch; leads = leads; from = refl; to = to }
-
-        is_sealed : is_yes (sealed_of s target) ≡ true
-        is_sealed =
-            let fits : HomeFits carries.tables parameter (complete is_complete.0) =
-            subst (HomeFits carries.tables parameter) (ap (λ (d : Definition). d.kind) is_complete.1) (carries.describes.homes parameter) in
-            let same : fits.0 ≡ target = front_same fits.0 target (sym fits.1 ∙ ap (λ (d : Definition). d.home) is_complete.1) in
-            both_true (is_yes (sealed_of s target)) (has_entry f.layout)
-            (sym (carries.describes.sealed target) ∙ ap (λ (b : ℕ). carries.tables.sealed b) (sym same) ∙ fits.2)
-          where
-            front_same : (b c : ℕ) → front b ≡ front c → b ≡ c
-            front_same b c h = cc
-
-        argument_is : function.argument parameter arm ≡ argument
-        argument_is =
-            same_value (function.argument parameter arm) argument
-            (sym (carries.describes.passes target parameter arm into is_complete.1 refl (length (carries.own.passed branch edge) + place)
-            (omega (arith, place_is))) ∙ passes)
-          where
-            same_value : (a b : ℕ) → Some (Value a) ≡ Some (Value b) → a ≡ b
-            same_value a b h = cc
-
-        label : label_of (resolved f argument) ≡ Some (flag (marked is_complete.0))
-        label =
-            ap (λ (v : ℕ). label_of v) (sym (carries.describes.resolves argument))
-            ∙ ap (λ (v : ℕ). label_of (function.resolve v)) (sym argument_is ∙ ap (λ (v : ℕ). function.argument v arm) (sym (itself_here parameter itself)))
-            ∙ (kept.arguments parameter target arm
-            (ap (λ (v : ℕ). (function.definition v).kind) (itself_here parameter itself) ∙ ap (λ (d : Definition). d.kind) is_complete.1)
-            (ap (λ (v : ℕ). (function.definition v).home) (itself_here parameter itself) ∙ ap (λ (d : Definition). d.home) is_complete.1)
-            refl (carries.describes.led target arm is_sealed refl into)).by_kind
-            ∙ ap (λ (l : ℕ). Some l) (variable_is is_complete.0)
-
-        argument_agrees : (members (resolved f argument) ≡ members (resolved f parameter)) ⊎ IsPut calls f (resolved f argument)
-        argument_agrees = by (labelled_member (resolved f argument) is_complete.0 (resolved_twice f argument consistent) label)
-          where
-            by : (members (resolved f argument) ≡ marked is_complete.0) ⊎ IsPut calls f (resolved f argument)
-                → (members (resolved f argument) ≡ members (resolved f parameter)) ⊎ IsPut calls f (resolved f argument)
-            by (inl same) =
-                inl (same ∙ sym (ap members itself ∙ parameter_member parameter is_complete.0 itself (inr (ap (λ (d : Definition). d.kind) is_complete.1))))
-            by (inr put) = inr put
+        by : (members (resolved f argument) ≡ marked (is_complete calls f s consistent carries target branch edge place argument parameter leads to passes stands).0) ⊎ IsPut calls f (resolved f argument)
+            → (members (resolved f argument) ≡ members (resolved f parameter)) ⊎ IsPut calls f (resolved f argument)
+        by (inl same) =
+            let alone : resolved f parameter ≡ parameter = itself calls f s consistent carries target branch edge place argument parameter leads to passes stands in
+            inl (same ∙ sym (ap members alone ∙ parameter_member parameter (is_complete calls f s consistent carries target branch edge place argument parameter leads to passes stands).0 alone (inr (ap (λ (d : Definition). d.kind) (is_complete calls f s consistent carries target branch edge place argument parameter leads to passes stands).1))))
+        by (inr put) = inr put
 
     pub values_agree : ValuesAgree calls carries.own f s tracked members
     values_agree = record { answers = fresh_agrees; arguments = argument_agrees }
