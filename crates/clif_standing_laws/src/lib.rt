@@ -47,8 +47,9 @@ pub fn standing_unmarked_agrees()
     ensures { StandingUnmarkedAgrees }
 {}
 
-/// What was recorded for stack maps so far agrees with the marks of the calls: so it has them under a collector over exactly that,
-/// beside the run of the list's program in which marked variables and tracked names move.
+/// Where no tracked name is assigned to an unmarked variable, or returned by a use of one, what was recorded for stack maps so far
+/// agrees with the marks of the calls: so it has them under a collector over exactly that, beside the run of the list's program in
+/// which marked variables and tracked names move.
 pub fn standing_reads_right_recorded()
     ensures { StandingReadsRightRecorded }
 {}
