@@ -1,6 +1,6 @@
 //! The cursor, and how it makes instructions.
 ghost use Rattle.std.specs.Prelude.{◌≡◌, ◌<◌, ◌∷◌, [], length};
-ghost use Rattle.std.proofs.Common.{subst, sym};
+ghost use Rattle.std.proofs.Common.{refl, subst, sym};
 ghost use Rattle.std.proofs.Math.Nat.{lt_of_lt_of_le};
 ghost use Rattle.clif_tables.specs.Lists.{TableLists};
 ghost use Rattle.clif_ir.specs.Body.{value_at};
@@ -96,6 +96,20 @@ impl<'f> FuncCursor<'f> {
 }
 
 impl<'f> InstBuilderBase for FuncCursor<'f> {
+    type ValueAnswer = Result<Value, BuildError>;
+
+    type PairAnswer = Result<(Value, Value), BuildError>;
+
+    type InstAnswer = Result<Inst, BuildError>;
+
+    ghost asks = { λ condition. condition };
+
+    ghost answer_value = { λ made. made };
+
+    ghost answer_inst = { λ made. made };
+
+    ghost value_in = { λ answer. answer };
+
     ghost can_build = { CanAppend };
 
     ghost has_value = { λ c value. value < length c.func.now.values };
@@ -125,6 +139,8 @@ impl<'f> InstBuilderBase for FuncCursor<'f> {
 
     ghost builds_pair = { λ old new shape x answer.
         BuildsPair old new shape (value_at old.func.now x).ty answer };
+
+    ghost answer_is = { λ answer. refl };
 
     ghost like_is_value = { λ old new shape x answer built. built };
 
@@ -161,6 +177,24 @@ impl<'f> InstBuilderBase for FuncCursor<'f> {
 
     ghost exception_builds = { λ old new table exception taken current.
         taken.current current };
+
+    fn answer_value(made: Result<Value, BuildError>) -> Result<Value, BuildError>
+        ensures { result ≡ made }
+    {
+        made
+    }
+
+    fn answer_inst(made: Result<Inst, BuildError>) -> Result<Inst, BuildError>
+        ensures { result ≡ made }
+    {
+        made
+    }
+
+    fn value_in(answer: Result<Value, BuildError>) -> Result<Value, BuildError>
+        ensures { result ≡ answer }
+    {
+        answer
+    }
 
     fn value_type(&self, value: Value) -> Type {
         self.func.value_type(value)

@@ -1,5 +1,5 @@
 -- What is known of an instruction that calls nothing, or goes nowhere.
-use Rattle.std.proofs.Common.{◌≡◌, ◌+◌, ℕ, List, [], ◌∷◌, ◌++◌, true, false, length, refl, ap, sym, subst, ◌∙◌, arith}
+use Rattle.std.proofs.Common.{◌≡◌, ℕ, List, [], ◌∷◌, ◌++◌, true, false, length, refl, ap, sym, subst, ◌∙◌, arith}
 use Rattle.std.specs.Prelude.{All}
 use Rattle.std.proofs.lemmas.List.{append-nil}
 use Rattle.std.proofs.lemmas.List.Elements.{All-nil}
@@ -8,7 +8,7 @@ use Rattle.clif_types.specs.declared.extfunc.AbiParam.{AbiParam}
 use Rattle.clif_instructions.specs.declared.block_call.BlockCall.{BlockCall}
 use Rattle.clif_instructions.specs.declared.instructions.InstructionData.{InstructionData}
 use Rattle.clif_instructions.specs.declared.instructions.InstructionData.TheVariants.{BranchTable, Brif, Call, CallIndirect, Jump, TryCall, TryCallIndirect}
-use Rattle.clif_instructions.specs.Instruction.{contexts, destinations, is_branch, is_call, result_count, result_type_of, result_types}
+use Rattle.clif_instructions.specs.Instruction.{contexts, destinations, is_call, result_count, result_type_of, result_types}
 use Rattle.clif_tables.specs.Callees.{count_of_results, given_by_call, types_of, types_of_results}
 use Rattle.clif_tables.specs.Lists.{TableLists}
 use Rattle.clif_tables.proofs.Given.{no_call_gives}

@@ -122,47 +122,50 @@ pub record GivesPair (shape : InstructionData) : Type 0 where
   pub two_results : result_count shape ≡ 2
   pub goes_on : is_terminator shape ≡ false
 
--- this holds of any builders and any value between which the value was built
-abbrev pub AfterValue : {B : Type 0} → (B → B → InstructionData → «Type» → Result ℕ BuildError → Type 0) → (B → B → ℕ → Type 0) → Type 0
-AfterValue {B} builds_value P =
-    (old new : B) (shape : InstructionData) (ty : «Type») (value : ℕ) → builds_value old new shape ty (Ok value) → P old new value
+-- this holds of any builders and any value between which the value was built and answered
+abbrev pub AfterValue : {B V : Type 0} → (Result ℕ BuildError → V) → (B → B → InstructionData → «Type» → V → Type 0) → (B → B → ℕ → Type 0) → Type 0
+AfterValue {B} {V} answer_value builds_value P =
+    (old new : B) (shape : InstructionData) (ty : «Type») (value : ℕ) → builds_value old new shape ty (answer_value (Ok value)) → P old new value
 
 -- what is built at the type of a value is built at that type
-abbrev pub LikeIsValue : {B : Type 0} → (B → B → InstructionData → ℕ → Result ℕ BuildError → Type 0)
-    → (B → B → InstructionData → «Type» → Result ℕ BuildError → Type 0) → (B → ℕ → «Type») → Type 0
-LikeIsValue {B} builds_like builds_value type_of =
-    (old new : B) (shape : InstructionData) (x : ℕ) (answer : Result ℕ BuildError)
+abbrev pub LikeIsValue : {B V : Type 0} → (B → B → InstructionData → ℕ → V → Type 0) → (B → B → InstructionData → «Type» → V → Type 0) → (B → ℕ → «Type») → Type 0
+LikeIsValue {B} {V} builds_like builds_value type_of =
+    (old new : B) (shape : InstructionData) (x : ℕ) (answer : V)
     → builds_like old new shape x answer → builds_value old new shape (type_of old x) answer
 
--- A constant is pooled, and then the value of an instruction of its shape is built; or pooling fails with the error that is
--- answered.
-abbrev pub PoolsThenBuilds : {B : Type 0} → (B → B → List ℕ → Result ℕ BuildError → Type 0) → (B → B → InstructionData → «Type» → Result ℕ BuildError → Type 0)
-    → (old new : B) → (ℕ → InstructionData) → List ℕ → «Type» → Result ℕ BuildError → Type 0
-PoolsThenBuilds {B} pools builds_value old new shape bytes ty answer =
+-- A constant is pooled, and then the value of an instruction of its shape is built; or pooling fails, and the answer is made of its
+-- error.
+abbrev pub PoolsThenAnswers : {B V : Type 0} → (Result ℕ BuildError → V) → (B → B → List ℕ → Result ℕ BuildError → Type 0)
+    → (B → B → InstructionData → «Type» → V → Type 0) → (old new : B) → (ℕ → InstructionData) → List ℕ → «Type» → V → Type 0
+PoolsThenAnswers {B} {V} answer_value pools builds_value old new shape bytes ty answer =
     ((between : B) × (constant : ℕ) × pools old between bytes (Ok constant) × builds_value between new (shape constant) ty answer)
-    ⊎ ((error : BuildError) × pools old new bytes (Err error) × (answer ≡ Err error))
+    ⊎ ((error : BuildError) × pools old new bytes (Err error) × (answer ≡ answer_value (Err error)))
 
 -- this holds of any builders and any constant between which the constant was pooled
 abbrev pub AfterPooling : {B : Type 0} → (B → B → List ℕ → Result ℕ BuildError → Type 0) → (B → B → ℕ → Type 0) → Type 0
 AfterPooling {B} pools P = (old new : B) (bytes : List ℕ) (constant : ℕ) → pools old new bytes (Ok constant) → P old new constant
 
--- What a table holds is taken, and then the instruction that it serves is built, of its shape; or it isn't taken, with the error
--- that is answered.
+-- What a table holds is taken, and then the instruction that it serves is built, of its shape; or it isn't taken, and the answer is
+-- made of the error.
+abbrev pub TakesThenAnswers : {B T I : Type 0} → (Result ℕ BuildError → I) → (B → B → ℕ → Result T BuildError → Type 0)
+    → (B → B → InstructionData → «Type» → I → Type 0) → (old new : B) → (T → InstructionData) → ℕ → «Type» → I → Type 0
+TakesThenAnswers {B} {T} {I} answer_inst takes builds old new shape table ty answer =
+    ((between : B) × (held : T) × takes old between table (Ok held) × builds between new (shape held) ty answer)
+    ⊎ ((error : BuildError) × takes old new table (Err error) × (answer ≡ answer_inst (Err error)))
+
+-- The same, where the answer is a result.
 abbrev pub TakesThenBuilds : {B T : Type 0} → (B → B → ℕ → Result T BuildError → Type 0)
     → (B → B → InstructionData → «Type» → Result ℕ BuildError → Type 0)
     → (old new : B) → (T → InstructionData) → ℕ → «Type» → Result ℕ BuildError → Type 0
-TakesThenBuilds {B} {T} takes builds old new shape table ty answer =
-    ((between : B) × (held : T) × takes old between table (Ok held) × builds between new (shape held) ty answer)
-    ⊎ ((error : BuildError) × takes old new table (Err error) × (answer ≡ Err error))
+TakesThenBuilds = TakesThenAnswers (λ made. made)
 
--- The same, unless memory is refused first for what the instruction is to hold beside it: the builder fails then as by an
--- instruction of any shape, and the table isn't taken.
-abbrev pub GrowsThenTakes : {B T : Type 0} → (B → B → ℕ → Result T BuildError → Type 0)
-    → (B → B → InstructionData → «Type» → Result ℕ BuildError → Type 0)
-    → (old new : B) → (T → InstructionData) → ℕ → «Type» → Result ℕ BuildError → Type 0
-GrowsThenTakes {B} {T} takes builds old new shape table ty answer =
-    TakesThenBuilds takes builds old new shape table ty answer
-    ⊎ ((error : BuildError) × ((any : InstructionData) → builds old new any ty (Err error)) × (answer ≡ Err error))
+-- What a table holds is taken and the instruction built, unless memory is refused first for what the instruction is to hold beside
+-- it: the builder fails then as by an instruction of any shape, and the table isn't taken.
+abbrev pub GrowsThenAnswers : {B T I : Type 0} → (Result ℕ BuildError → I) → (B → B → ℕ → Result T BuildError → Type 0)
+    → (B → B → InstructionData → «Type» → I → Type 0) → (old new : B) → (T → InstructionData) → ℕ → «Type» → I → Type 0
+GrowsThenAnswers {B} {T} {I} answer_inst takes builds old new shape table ty answer =
+    TakesThenAnswers answer_inst takes builds old new shape table ty answer
+    ⊎ ((error : BuildError) × ((any : InstructionData) → builds old new any ty (answer_inst (Err error))) × (answer ≡ answer_inst (Err error)))
 
 -- this holds of any builders, table and what it held, between which that was taken
 abbrev pub AfterTaking : {B T : Type 0} → (B → B → ℕ → Result T BuildError → Type 0) → (B → B → ℕ → T → Type 0) → Type 0

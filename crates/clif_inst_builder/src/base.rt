@@ -11,7 +11,18 @@ use clif_types::{BuildError, Constant, ExceptionTable, Inst, JumpTable, Type, Va
 use std::alloc::Global;
 
 /// What makes an instruction of any shape at the end of the current block.
+///
+/// The implementor chooses what its methods answer: a `Result`, or the plain value, where it keeps what went wrong itself.
 pub trait InstBuilderBase {
+    /// What is answered where an instruction has one result: its value.
+    type ValueAnswer;
+
+    /// What is answered where it has two: their values in order.
+    type PairAnswer;
+
+    /// What is answered of any other instruction: its number.
+    type InstAnswer;
+
     ghost use Rattle.std.specs.Prelude.{ℕ, List, Result, Err};
     ghost use Rattle.clif_types.specs.declared.error.BuildError.{BuildError};
     ghost use Rattle.clif_types.specs.declared.types.«Type».{«Type»};
@@ -19,6 +30,17 @@ pub trait InstBuilderBase {
     ghost use Rattle.clif_instructions.specs.ExceptionTables.{ExceptionShape};
     ghost use Rattle.clif_instructions.specs.declared.instructions.InstructionData.{InstructionData};
     ghost use Rattle.clif_instructions.specs.Instruction.{EntryRef, AConstant};
+
+    // what is asked of a caller, of a condition on types: the condition itself, or nothing
+    ghost asks: { Type 0 → Type 0 };
+
+    // the answer that is made of this result
+    ghost answer_value: { Result ℕ BuildError → Self.ValueAnswer };
+
+    ghost answer_inst: { Result ℕ BuildError → Self.InstAnswer };
+
+    // the result that an answer was made of
+    ghost value_in: { Self.ValueAnswer → Result ℕ BuildError };
 
     // there is a current block, which may get an instruction
     ghost can_build: { Self → Type 0 };
@@ -51,17 +73,29 @@ pub trait InstBuilderBase {
     // what `take_exception_table` makes of the builder, by the table and its result
     ghost takes_exception: { Self → Self → ℕ → Result ExceptionShape BuildError → Type 0 };
 
-    // what `build` makes of the builder, by its result
-    ghost builds: { Self → Self → InstructionData → «Type» → Result ℕ BuildError → Type 0 };
+    // what `build` makes of the builder, by its answer
+    ghost builds: { Self → Self → InstructionData → «Type» → Self.InstAnswer → Type 0 };
 
     // what `build_value` makes of it
-    ghost builds_value: { Self → Self → InstructionData → «Type» → Result ℕ BuildError → Type 0 };
+    ghost builds_value: { Self → Self → InstructionData → «Type» → Self.ValueAnswer → Type 0 };
 
     // what `build_like` makes of it
-    ghost builds_like: { Self → Self → InstructionData → ℕ → Result ℕ BuildError → Type 0 };
+    ghost builds_like: { Self → Self → InstructionData → ℕ → Self.ValueAnswer → Type 0 };
 
     // what `build_pair` makes of it
-    ghost builds_pair: { Self → Self → InstructionData → ℕ → Result (ℕ × ℕ) BuildError → Type 0 };
+    ghost builds_pair: { Self → Self → InstructionData → ℕ → Self.PairAnswer → Type 0 };
+
+    /// The answer that is made of a result.
+    fn answer_value(made: Result<Value, BuildError>) -> Self::ValueAnswer
+        ensures { result ≡ answer_value made };
+
+    /// The same, of an instruction.
+    fn answer_inst(made: Result<Inst, BuildError>) -> Self::InstAnswer
+        ensures { result ≡ answer_inst made };
+
+    /// The value that an answer has, to build on with it, or why there is none.
+    fn value_in(answer: Self::ValueAnswer) -> Result<Value, BuildError>
+        ensures { result ≡ value_in answer };
 
     /// The type of a value.
     fn value_type(&self, value: Value) -> Type
@@ -91,7 +125,7 @@ pub trait InstBuilderBase {
     /// Appends an instruction; `ctrl_type` is its controlling type.
     ///
     /// A terminator fills the block. A branch becomes a predecessor of the target of each edge, once.
-    fn build(&mut self, shape: InstructionData, ctrl_type: Type) -> Result<Inst, BuildError>
+    fn build(&mut self, shape: InstructionData, ctrl_type: Type) -> Self::InstAnswer
         requires current { can_build self.old }
         requires operands_exist { All (has_value self.old) (operands shape) }
         requires contexts_exist { All (has_value self.old) (contexts shape) }
@@ -102,11 +136,7 @@ pub trait InstBuilderBase {
     #[tactic(auto, using(crate::proofs::NoCalls::straight_rules))]
     /// Appends an instruction that neither branches nor ends the block, so that one can build on; `ctrl_type` is its
     /// controlling type.
-    final fn build_aux_inst(
-        &mut self,
-        shape: InstructionData,
-        ctrl_type: Type,
-    ) -> Result<Inst, BuildError>
+    final fn build_aux_inst(&mut self, shape: InstructionData, ctrl_type: Type) -> Self::InstAnswer
         requires current { Self.can_build self.old }
         requires operands_exist { All (Self.has_value self.old) (operands shape) }
         requires entries_exist { All (Self.has_entry self.old) (entries_of shape) }
@@ -117,7 +147,7 @@ pub trait InstBuilderBase {
     }
 
     /// Appends an instruction that has one result and goes on behind it, and returns the result's value.
-    fn build_value(&mut self, shape: InstructionData, ctrl_type: Type) -> Result<Value, BuildError>
+    fn build_value(&mut self, shape: InstructionData, ctrl_type: Type) -> Self::ValueAnswer
         requires current { can_build self.old }
         requires operands_exist { All (has_value self.old) (operands shape) }
         requires entries_exist { All (has_entry self.old) (entries_of shape) }
@@ -125,7 +155,7 @@ pub trait InstBuilderBase {
         ensures built { builds_value self.old self.new shape ctrl_type result };
 
     /// The same, with the type of `like` as the controlling type.
-    fn build_like(&mut self, shape: InstructionData, like: Value) -> Result<Value, BuildError>
+    fn build_like(&mut self, shape: InstructionData, like: Value) -> Self::ValueAnswer
         requires current { can_build self.old }
         requires operands_exist { All (has_value self.old) (operands shape) }
         requires entries_exist { All (has_entry self.old) (entries_of shape) }
@@ -135,11 +165,7 @@ pub trait InstBuilderBase {
 
     /// Appends an instruction that has two results and goes on behind it, with the type of `like` as the controlling
     /// type, and returns the values of the results in order.
-    fn build_pair(
-        &mut self,
-        shape: InstructionData,
-        like: Value,
-    ) -> Result<(Value, Value), BuildError>
+    fn build_pair(&mut self, shape: InstructionData, like: Value) -> Self::PairAnswer
         requires current { can_build self.old }
         requires operands_exist { All (has_value self.old) (operands shape) }
         requires entries_exist { All (has_entry self.old) (entries_of shape) }
@@ -150,17 +176,18 @@ pub trait InstBuilderBase {
     /// Fails, since memory was refused for what an instruction was to hold.
     fn refuse(&mut self) -> BuildError
         ensures refused { (shape : InstructionData) (ty : «Type») →
-            builds self.old self.new shape ty (Err result) };
+            builds self.old self.new shape ty (answer_inst (Err result)) };
 
     // after a value was built one can build on, with this value, and with the values and entries that there were before
-    ghost builds_on: { AfterValue builds_value (λ old new value. can_build new) };
+    ghost builds_on: { AfterValue answer_value builds_value (λ old new value. can_build new) };
 
-    ghost built_exists: { AfterValue builds_value (λ old new value. has_value new value) };
+    ghost built_exists: { AfterValue answer_value builds_value
+        (λ old new value. has_value new value) };
 
-    ghost others_exist: { AfterValue builds_value
+    ghost others_exist: { AfterValue answer_value builds_value
         (λ old new value. (x : ℕ) → has_value old x → has_value new x) };
 
-    ghost entries_stay: { AfterValue builds_value
+    ghost entries_stay: { AfterValue answer_value builds_value
         (λ old new value. (entry : EntryRef) → has_entry old entry → has_entry new entry) };
 
     // after a constant was pooled it is there, and one can build as before
@@ -193,6 +220,9 @@ pub trait InstBuilderBase {
 
     ghost exception_builds: { AfterTaking takes_exception
         (λ old new table exception. can_build old → can_build new) };
+
+    // an answer is made of the result in it
+    ghost answer_is: { (answer : Self.ValueAnswer) → answer_value (value_in answer) ≡ answer };
 
     ghost like_is_value: { LikeIsValue builds_like builds_value type_of };
 }

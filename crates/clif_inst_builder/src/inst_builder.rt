@@ -4,7 +4,7 @@ ghost use Rattle.clif_types.specs.Types.{bytes_of, is_int, is_type};
 ghost use Rattle.clif_instructions.specs.Instruction.{AFunctionRef, ASignatureRef, ASlot};
 ghost use Rattle.clif_opcodes.specs.Kinds.{is_met};
 ghost use Rattle.clif_opcodes.specs.declared.kinds.Demand.{Demand};
-ghost use Rattle.clif_inst_builder.specs.Shapes.{GrowsThenTakes, PoolsThenBuilds, TakesThenBuilds, binary, branch_table, brif_to, call, call_indirect, concat, cond_trap, convert, edge_to, int_compare, jump, load, multi_ary, split, stack, stack_store, store, ternary, trap, try_call, try_call_indirect, unary, unary_const, unary_ieee, unary_imm};
+ghost use Rattle.clif_inst_builder.specs.Shapes.{GrowsThenAnswers, PoolsThenAnswers, TakesThenAnswers, binary, branch_table, brif_to, call, call_indirect, concat, cond_trap, convert, edge_to, int_compare, jump, load, multi_ary, split, stack, stack_store, store, ternary, trap, try_call, try_call_indirect, unary, unary_const, unary_ieee, unary_imm};
 
 use crate::base::InstBuilderBase;
 use clif_instructions::block_call::{BlockArg, BlockCall};
@@ -30,16 +30,16 @@ use std::alloc::Global;
 /// still contain the instruction.
 pub trait InstBuilder: InstBuilderBase {
     /// `iconst.ty imm`: a constant of an integer type, which is the low bits of `imm`.
-    final fn iconst(&mut self, ty: Type, imm: i64) -> Result<Value, BuildError>
+    final fn iconst(&mut self, ty: Type, imm: i64) -> Self::ValueAnswer
         requires current { Self.can_build self.old }
-        requires integer { IsTrue (is_int ty) }
+        requires integer { Self.asks (IsTrue (is_int ty)) }
         ensures built { Self.builds_value self.old self.new (unary_imm imm) ty result }
     {
         self.unary_imm(ty, imm)
     }
 
     /// `iadd x, y`: the sum, modulo two to the width of the type.
-    final fn iadd(&mut self, x: Value, y: Value) -> Result<Value, BuildError>
+    final fn iadd(&mut self, x: Value, y: Value) -> Self::ValueAnswer
         requires current { Self.can_build self.old }
         requires x_exists { Self.has_value self.old x }
         requires y_exists { Self.has_value self.old y }
@@ -49,7 +49,7 @@ pub trait InstBuilder: InstBuilderBase {
     }
 
     /// `isub x, y`: the difference, modulo two to the width of the type.
-    final fn isub(&mut self, x: Value, y: Value) -> Result<Value, BuildError>
+    final fn isub(&mut self, x: Value, y: Value) -> Self::ValueAnswer
         requires current { Self.can_build self.old }
         requires x_exists { Self.has_value self.old x }
         requires y_exists { Self.has_value self.old y }
@@ -59,7 +59,7 @@ pub trait InstBuilder: InstBuilderBase {
     }
 
     /// `imul x, y`: the product, modulo two to the width of the type.
-    final fn imul(&mut self, x: Value, y: Value) -> Result<Value, BuildError>
+    final fn imul(&mut self, x: Value, y: Value) -> Self::ValueAnswer
         requires current { Self.can_build self.old }
         requires x_exists { Self.has_value self.old x }
         requires y_exists { Self.has_value self.old y }
@@ -69,7 +69,7 @@ pub trait InstBuilder: InstBuilderBase {
     }
 
     /// `band x, y`: bitwise and.
-    final fn band(&mut self, x: Value, y: Value) -> Result<Value, BuildError>
+    final fn band(&mut self, x: Value, y: Value) -> Self::ValueAnswer
         requires current { Self.can_build self.old }
         requires x_exists { Self.has_value self.old x }
         requires y_exists { Self.has_value self.old y }
@@ -79,7 +79,7 @@ pub trait InstBuilder: InstBuilderBase {
     }
 
     /// `bor x, y`: bitwise or.
-    final fn bor(&mut self, x: Value, y: Value) -> Result<Value, BuildError>
+    final fn bor(&mut self, x: Value, y: Value) -> Self::ValueAnswer
         requires current { Self.can_build self.old }
         requires x_exists { Self.has_value self.old x }
         requires y_exists { Self.has_value self.old y }
@@ -89,7 +89,7 @@ pub trait InstBuilder: InstBuilderBase {
     }
 
     /// `bxor x, y`: bitwise exclusive or.
-    final fn bxor(&mut self, x: Value, y: Value) -> Result<Value, BuildError>
+    final fn bxor(&mut self, x: Value, y: Value) -> Self::ValueAnswer
         requires current { Self.can_build self.old }
         requires x_exists { Self.has_value self.old x }
         requires y_exists { Self.has_value self.old y }
@@ -99,7 +99,7 @@ pub trait InstBuilder: InstBuilderBase {
     }
 
     /// `ishl x, y`: `x` shifted left. The shift amount `y` has any integer type, and is taken modulo the width of `x`.
-    final fn ishl(&mut self, x: Value, y: Value) -> Result<Value, BuildError>
+    final fn ishl(&mut self, x: Value, y: Value) -> Self::ValueAnswer
         requires current { Self.can_build self.old }
         requires x_exists { Self.has_value self.old x }
         requires y_exists { Self.has_value self.old y }
@@ -109,7 +109,7 @@ pub trait InstBuilder: InstBuilderBase {
     }
 
     /// `ushr x, y`: `x` shifted right, with zeros from the left. `y` is taken as in [`InstBuilder::ishl`].
-    final fn ushr(&mut self, x: Value, y: Value) -> Result<Value, BuildError>
+    final fn ushr(&mut self, x: Value, y: Value) -> Self::ValueAnswer
         requires current { Self.can_build self.old }
         requires x_exists { Self.has_value self.old x }
         requires y_exists { Self.has_value self.old y }
@@ -120,7 +120,7 @@ pub trait InstBuilder: InstBuilderBase {
 
     /// `sshr x, y`: `x` shifted right, with copies of its sign bit from the left. `y` is taken as in
     /// [`InstBuilder::ishl`].
-    final fn sshr(&mut self, x: Value, y: Value) -> Result<Value, BuildError>
+    final fn sshr(&mut self, x: Value, y: Value) -> Self::ValueAnswer
         requires current { Self.can_build self.old }
         requires x_exists { Self.has_value self.old x }
         requires y_exists { Self.has_value self.old y }
@@ -130,7 +130,7 @@ pub trait InstBuilder: InstBuilderBase {
     }
 
     /// `udiv x, y`: the quotient of unsigned numbers. It traps with `int_divz` if `y` is zero.
-    final fn udiv(&mut self, x: Value, y: Value) -> Result<Value, BuildError>
+    final fn udiv(&mut self, x: Value, y: Value) -> Self::ValueAnswer
         requires current { Self.can_build self.old }
         requires x_exists { Self.has_value self.old x }
         requires y_exists { Self.has_value self.old y }
@@ -141,7 +141,7 @@ pub trait InstBuilder: InstBuilderBase {
 
     /// `sdiv x, y`: the quotient of signed numbers, rounded toward zero. It traps with `int_divz` if `y` is zero,
     /// and with `int_ovf` if `x` is the least number and `y` is -1.
-    final fn sdiv(&mut self, x: Value, y: Value) -> Result<Value, BuildError>
+    final fn sdiv(&mut self, x: Value, y: Value) -> Self::ValueAnswer
         requires current { Self.can_build self.old }
         requires x_exists { Self.has_value self.old x }
         requires y_exists { Self.has_value self.old y }
@@ -151,7 +151,7 @@ pub trait InstBuilder: InstBuilderBase {
     }
 
     /// `urem x, y`: the remainder of unsigned numbers. It traps with `int_divz` if `y` is zero.
-    final fn urem(&mut self, x: Value, y: Value) -> Result<Value, BuildError>
+    final fn urem(&mut self, x: Value, y: Value) -> Self::ValueAnswer
         requires current { Self.can_build self.old }
         requires x_exists { Self.has_value self.old x }
         requires y_exists { Self.has_value self.old y }
@@ -162,7 +162,7 @@ pub trait InstBuilder: InstBuilderBase {
 
     /// `srem x, y`: the remainder of signed numbers, with the sign of `x`. It traps with `int_divz` if `y` is zero;
     /// the least number by -1 gives 0.
-    final fn srem(&mut self, x: Value, y: Value) -> Result<Value, BuildError>
+    final fn srem(&mut self, x: Value, y: Value) -> Self::ValueAnswer
         requires current { Self.can_build self.old }
         requires x_exists { Self.has_value self.old x }
         requires y_exists { Self.has_value self.old y }
@@ -172,7 +172,7 @@ pub trait InstBuilder: InstBuilderBase {
     }
 
     /// `ineg x`: the negative, in two's complement.
-    final fn ineg(&mut self, x: Value) -> Result<Value, BuildError>
+    final fn ineg(&mut self, x: Value) -> Self::ValueAnswer
         requires current { Self.can_build self.old }
         requires x_exists { Self.has_value self.old x }
         ensures built { Self.builds_like self.old self.new (unary UnaryOpcode.Ineg x) x result }
@@ -181,7 +181,7 @@ pub trait InstBuilder: InstBuilderBase {
     }
 
     /// `bnot x`: bitwise not.
-    final fn bnot(&mut self, x: Value) -> Result<Value, BuildError>
+    final fn bnot(&mut self, x: Value) -> Self::ValueAnswer
         requires current { Self.can_build self.old }
         requires x_exists { Self.has_value self.old x }
         ensures built { Self.builds_like self.old self.new (unary UnaryOpcode.Bnot x) x result }
@@ -190,9 +190,9 @@ pub trait InstBuilder: InstBuilderBase {
     }
 
     /// `uextend.ty x`: a wider integer, with zeros above the bits of `x`. That `x` is narrower isn't checked here.
-    final fn uextend(&mut self, ty: Type, x: Value) -> Result<Value, BuildError>
+    final fn uextend(&mut self, ty: Type, x: Value) -> Self::ValueAnswer
         requires current { Self.can_build self.old }
-        requires integer { IsTrue (is_int ty) }
+        requires integer { Self.asks (IsTrue (is_int ty)) }
         requires x_exists { Self.has_value self.old x }
         ensures built { Self.builds_value self.old self.new (convert ConvertOpcode.Uextend x) ty result }
     {
@@ -200,9 +200,9 @@ pub trait InstBuilder: InstBuilderBase {
     }
 
     /// `ireduce.ty x`: a narrower integer, the low bits of `x`. That `x` is wider isn't checked here.
-    final fn ireduce(&mut self, ty: Type, x: Value) -> Result<Value, BuildError>
+    final fn ireduce(&mut self, ty: Type, x: Value) -> Self::ValueAnswer
         requires current { Self.can_build self.old }
-        requires integer { IsTrue (is_int ty) }
+        requires integer { Self.asks (IsTrue (is_int ty)) }
         requires x_exists { Self.has_value self.old x }
         ensures built { Self.builds_value self.old self.new (convert ConvertOpcode.Ireduce x) ty result }
     {
@@ -210,9 +210,9 @@ pub trait InstBuilder: InstBuilderBase {
     }
 
     /// `splat.ty x`: a vector with `x` in every lane.
-    final fn splat(&mut self, ty: Type, x: Value) -> Result<Value, BuildError>
+    final fn splat(&mut self, ty: Type, x: Value) -> Self::ValueAnswer
         requires current { Self.can_build self.old }
-        requires vector { IsTrue (is_met Demand.AVector ty) }
+        requires vector { Self.asks (IsTrue (is_met Demand.AVector ty)) }
         requires x_exists { Self.has_value self.old x }
         ensures built { Self.builds_value self.old self.new (convert ConvertOpcode.Splat x) ty result }
     {
@@ -220,7 +220,7 @@ pub trait InstBuilder: InstBuilderBase {
     }
 
     /// `select c, x, y`: `x` if `c` isn't zero, and otherwise `y`. `c` is an integer of any type.
-    final fn select(&mut self, c: Value, x: Value, y: Value) -> Result<Value, BuildError>
+    final fn select(&mut self, c: Value, x: Value, y: Value) -> Self::ValueAnswer
         requires current { Self.can_build self.old }
         requires c_exists { Self.has_value self.old c }
         requires x_exists { Self.has_value self.old x }
@@ -232,7 +232,7 @@ pub trait InstBuilder: InstBuilderBase {
     }
 
     /// `f16const bits`: the float with these bits.
-    final fn f16const(&mut self, bits: u16) -> Result<Value, BuildError>
+    final fn f16const(&mut self, bits: u16) -> Self::ValueAnswer
         requires current { Self.can_build self.old }
         ensures built { Self.builds_value self.old self.new
             (unary_ieee FloatConstOpcode.F16const bits) Type.Invalid result }
@@ -243,7 +243,7 @@ pub trait InstBuilder: InstBuilderBase {
     }
 
     /// `f32const bits`: the float with these bits.
-    final fn f32const(&mut self, bits: u32) -> Result<Value, BuildError>
+    final fn f32const(&mut self, bits: u32) -> Self::ValueAnswer
         requires current { Self.can_build self.old }
         ensures built { Self.builds_value self.old self.new
             (unary_ieee FloatConstOpcode.F32const bits) Type.Invalid result }
@@ -254,7 +254,7 @@ pub trait InstBuilder: InstBuilderBase {
     }
 
     /// `f64const bits`: the float with these bits.
-    final fn f64const(&mut self, bits: u64) -> Result<Value, BuildError>
+    final fn f64const(&mut self, bits: u64) -> Self::ValueAnswer
         requires current { Self.can_build self.old }
         ensures built { Self.builds_value self.old self.new
             (unary_ieee FloatConstOpcode.F64const bits) Type.Invalid result }
@@ -264,32 +264,32 @@ pub trait InstBuilder: InstBuilderBase {
     }
 
     /// `f128const constant`: the float with the bits that these bytes make, the lowest first. They are pooled.
-    final fn f128const(&mut self, bytes: &[u8]) -> Result<Value, BuildError>
+    final fn f128const(&mut self, bytes: &[u8]) -> Self::ValueAnswer
         requires current { Self.can_build self.old }
-        requires fits { length bytes.now ≡ 16 }
-        ensures built { PoolsThenBuilds Self.pools Self.builds_value self.old self.new
-            (unary_const PooledConstOpcode.F128const) bytes.now Type.Invalid result }
+        requires fits { Self.asks (length bytes.now ≡ 16) }
+        ensures built { PoolsThenAnswers Self.answer_value Self.pools Self.builds_value
+            self.old self.new (unary_const PooledConstOpcode.F128const) bytes.now Type.Invalid result }
     {
         self.pooled(PooledConstOpcode::F128const, Type::Invalid, bytes)
     }
 
     /// `vconst.ty constant`: the vector of type `ty` that these bytes make, the lowest first; there are as many as `ty` has.
     /// They are pooled.
-    final fn vconst(&mut self, ty: Type, bytes: &[u8]) -> Result<Value, BuildError>
+    final fn vconst(&mut self, ty: Type, bytes: &[u8]) -> Self::ValueAnswer
         requires current { Self.can_build self.old }
-        requires vector { IsTrue (is_met Demand.AVector ty) }
-        requires fits { length bytes.now ≡ bytes_of ty }
-        ensures built { PoolsThenBuilds Self.pools Self.builds_value self.old self.new
-            (unary_const PooledConstOpcode.Vconst) bytes.now ty result }
+        requires vector { Self.asks (IsTrue (is_met Demand.AVector ty)) }
+        requires fits { Self.asks (length bytes.now ≡ bytes_of ty) }
+        ensures built { PoolsThenAnswers Self.answer_value Self.pools Self.builds_value
+            self.old self.new (unary_const PooledConstOpcode.Vconst) bytes.now ty result }
     {
         self.pooled(PooledConstOpcode::Vconst, ty, bytes)
     }
 
     /// `sextend.ty x`: a wider integer, with copies of the sign bit of `x` above its bits. That `x` is narrower isn't
     /// checked here.
-    final fn sextend(&mut self, ty: Type, x: Value) -> Result<Value, BuildError>
+    final fn sextend(&mut self, ty: Type, x: Value) -> Self::ValueAnswer
         requires current { Self.can_build self.old }
-        requires integer { IsTrue (is_int ty) }
+        requires integer { Self.asks (IsTrue (is_int ty)) }
         requires x_exists { Self.has_value self.old x }
         ensures built { Self.builds_value self.old self.new (convert ConvertOpcode.Sextend x) ty result }
     {
@@ -297,7 +297,7 @@ pub trait InstBuilder: InstBuilderBase {
     }
 
     /// `icmp cond x, y`: an I8 that is 1 if the condition holds of two integers of one type, and 0 otherwise.
-    final fn icmp(&mut self, cond: IntCC, x: Value, y: Value) -> Result<Value, BuildError>
+    final fn icmp(&mut self, cond: IntCC, x: Value, y: Value) -> Self::ValueAnswer
         requires current { Self.can_build self.old }
         requires x_exists { Self.has_value self.old x }
         requires y_exists { Self.has_value self.old y }
@@ -309,11 +309,11 @@ pub trait InstBuilder: InstBuilderBase {
 
     /// `iconcat lo, hi`: the integer of twice the width whose low half is `lo` and whose high half is `hi`. `lo` has one
     /// of the types I8 to I64.
-    final fn iconcat(&mut self, lo: Value, hi: Value) -> Result<Value, BuildError>
+    final fn iconcat(&mut self, lo: Value, hi: Value) -> Self::ValueAnswer
         requires current { Self.can_build self.old }
         requires lo_exists { Self.has_value self.old lo }
         requires hi_exists { Self.has_value self.old hi }
-        requires doubled { IsTrue (is_met Demand.ADoubled (Self.type_of self.old lo)) }
+        requires doubled { Self.asks (IsTrue (is_met Demand.ADoubled (Self.type_of self.old lo))) }
         ensures built { Self.builds_like self.old self.new (concat lo hi) lo result }
     {
         let args = [lo, hi];
@@ -322,10 +322,10 @@ pub trait InstBuilder: InstBuilderBase {
 
     /// `isplit x`: the low half of an integer and its high half, each of half its width. `x` has one of the types I16 to
     /// I128.
-    final fn isplit(&mut self, x: Value) -> Result<(Value, Value), BuildError>
+    final fn isplit(&mut self, x: Value) -> Self::PairAnswer
         requires current { Self.can_build self.old }
         requires x_exists { Self.has_value self.old x }
-        requires halved { IsTrue (is_met Demand.AHalved (Self.type_of self.old x)) }
+        requires halved { Self.asks (IsTrue (is_met Demand.AHalved (Self.type_of self.old x))) }
         ensures built { Self.builds_pair self.old self.new (split x) x result }
     {
         self.build_pair(InstructionData::Split { arg: x }, x)
@@ -341,9 +341,9 @@ pub trait InstBuilder: InstBuilderBase {
         flags: MemFlagsData,
         p: Value,
         offset: i32,
-    ) -> Result<Value, BuildError>
+    ) -> Self::ValueAnswer
         requires current { Self.can_build self.old }
-        requires valid { IsTrue (is_type ty) }
+        requires valid { Self.asks (IsTrue (is_type ty)) }
         requires p_exists { Self.has_value self.old p }
         ensures built { Self.builds_value self.old self.new (load flags p offset) ty result }
     {
@@ -363,7 +363,7 @@ pub trait InstBuilder: InstBuilderBase {
         x: Value,
         p: Value,
         offset: i32,
-    ) -> Result<Inst, BuildError>
+    ) -> Self::InstAnswer
         requires current { Self.can_build self.old }
         requires x_exists { Self.has_value self.old x }
         requires p_exists { Self.has_value self.old p }
@@ -381,14 +381,9 @@ pub trait InstBuilder: InstBuilderBase {
     /// `stack_addr.ty slot+offset`: the address of a stack slot plus `offset`, which counts modulo the width of pointers:
     /// its low bits, with zeros above them at a wider type. It may be made at any type, and `check` tells one that isn't an
     /// integer.
-    final fn stack_addr(
-        &mut self,
-        ty: Type,
-        slot: StackSlot,
-        offset: i32,
-    ) -> Result<Value, BuildError>
+    final fn stack_addr(&mut self, ty: Type, slot: StackSlot, offset: i32) -> Self::ValueAnswer
         requires current { Self.can_build self.old }
-        requires valid { IsTrue (is_type ty) }
+        requires valid { Self.asks (IsTrue (is_type ty)) }
         requires slot_exists { Self.has_entry self.old (ASlot slot) }
         ensures built { Self.builds_value self.old self.new
             (stack StackOpcode.StackAddr slot offset) ty result }
@@ -398,14 +393,9 @@ pub trait InstBuilder: InstBuilderBase {
 
     /// `stack_load.ty slot+offset`: the value of type `ty` that is in memory at the address of a stack slot plus `offset`.
     /// It traps with `heap_oob` if a byte isn't accessible; those of the slot are.
-    final fn stack_load(
-        &mut self,
-        ty: Type,
-        slot: StackSlot,
-        offset: i32,
-    ) -> Result<Value, BuildError>
+    final fn stack_load(&mut self, ty: Type, slot: StackSlot, offset: i32) -> Self::ValueAnswer
         requires current { Self.can_build self.old }
-        requires valid { IsTrue (is_type ty) }
+        requires valid { Self.asks (IsTrue (is_type ty)) }
         requires slot_exists { Self.has_entry self.old (ASlot slot) }
         ensures built { Self.builds_value self.old self.new
             (stack StackOpcode.StackLoad slot offset) ty result }
@@ -415,12 +405,7 @@ pub trait InstBuilder: InstBuilderBase {
 
     /// `stack_store x, slot+offset`: puts `x` into memory at the address of a stack slot plus `offset`, which is taken as in
     /// [`InstBuilder::stack_load`].
-    final fn stack_store(
-        &mut self,
-        x: Value,
-        slot: StackSlot,
-        offset: i32,
-    ) -> Result<Inst, BuildError>
+    final fn stack_store(&mut self, x: Value, slot: StackSlot, offset: i32) -> Self::InstAnswer
         requires current { Self.can_build self.old }
         requires x_exists { Self.has_value self.old x }
         requires slot_exists { Self.has_entry self.old (ASlot slot) }
@@ -435,7 +420,7 @@ pub trait InstBuilder: InstBuilderBase {
     }
 
     /// `trap code`: ends the run with this trap. The current block is filled afterwards.
-    final fn trap(&mut self, code: TrapCode) -> Result<Inst, BuildError>
+    final fn trap(&mut self, code: TrapCode) -> Self::InstAnswer
         requires current { Self.can_build self.old }
         ensures built { Self.builds self.old self.new (trap code) Type.Invalid result }
     {
@@ -443,7 +428,7 @@ pub trait InstBuilder: InstBuilderBase {
     }
 
     /// `trapz c, code`: ends the run with this trap if the integer `c` is zero. Otherwise the block goes on.
-    final fn trapz(&mut self, c: Value, code: TrapCode) -> Result<Inst, BuildError>
+    final fn trapz(&mut self, c: Value, code: TrapCode) -> Self::InstAnswer
         requires current { Self.can_build self.old }
         requires c_exists { Self.has_value self.old c }
         ensures built { Self.builds self.old self.new
@@ -453,7 +438,7 @@ pub trait InstBuilder: InstBuilderBase {
     }
 
     /// `trapnz c, code`: ends the run with this trap if the integer `c` isn't zero. Otherwise the block goes on.
-    final fn trapnz(&mut self, c: Value, code: TrapCode) -> Result<Inst, BuildError>
+    final fn trapnz(&mut self, c: Value, code: TrapCode) -> Self::InstAnswer
         requires current { Self.can_build self.old }
         requires c_exists { Self.has_value self.old c }
         ensures built { Self.builds self.old self.new
@@ -466,14 +451,14 @@ pub trait InstBuilder: InstBuilderBase {
     /// Arguments for variables are added by the builder.
     ///
     /// The block must not be sealed, since this is one more predecessor. The current block is filled afterwards.
-    final fn jump(&mut self, block: Block, args: &[BlockArg]) -> Result<Inst, BuildError>
+    final fn jump(&mut self, block: Block, args: &[BlockArg]) -> Self::InstAnswer
         requires current { Self.can_build self.old }
         requires leads { Self.can_lead self.old (edge_to block args.now) }
         ensures built { Self.builds self.old self.new (jump block args.now) Type.Invalid result }
     {
         match BlockCall::new(self.allocator(), block, args) {
             Ok(destination) => self.build(InstructionData::Jump { destination }, Type::Invalid),
-            Err(_) => Err(self.refuse()),
+            Err(_) => Self::answer_inst(Err(self.refuse())),
         }
     }
 
@@ -488,7 +473,7 @@ pub trait InstBuilder: InstBuilderBase {
         block_then_args: &[BlockArg],
         block_else: Block,
         block_else_args: &[BlockArg],
-    ) -> Result<Inst, BuildError>
+    ) -> Self::InstAnswer
         requires current { Self.can_build self.old }
         requires c_exists { Self.has_value self.old c }
         requires leads_then { Self.can_lead self.old (edge_to block_then block_then_args.now) }
@@ -507,7 +492,7 @@ pub trait InstBuilder: InstBuilderBase {
         );
         match made {
             Ok(blocks) => self.build(InstructionData::Brif { arg: c, blocks }, Type::Invalid),
-            Err(_) => Err(self.refuse()),
+            Err(_) => Self::answer_inst(Err(self.refuse())),
         }
     }
 
@@ -516,23 +501,25 @@ pub trait InstBuilder: InstBuilderBase {
     ///
     /// The table served no instruction before, and serves this one from now on. No target of its edges is sealed. The
     /// current block is filled afterwards.
-    final fn br_table(&mut self, x: Value, table: JumpTable) -> Result<Inst, BuildError>
+    final fn br_table(&mut self, x: Value, table: JumpTable) -> Self::InstAnswer
         requires current { Self.can_build self.old }
         requires x_exists { Self.has_value self.old x }
         requires serves { Self.has_jump_table self.old table }
-        ensures built { TakesThenBuilds Self.takes Self.builds self.old self.new (branch_table x)
-            table Type.Invalid result }
+        ensures built { TakesThenAnswers Self.answer_inst Self.takes Self.builds
+            self.old self.new (branch_table x) table Type.Invalid result }
     {
-        let table = self.take_jump_table(table)?;
-        self.build(
-            InstructionData::BranchTable { arg: x, table },
-            Type::Invalid,
-        )
+        match self.take_jump_table(table) {
+            Ok(table) => {
+                let shape = InstructionData::BranchTable { arg: x, table };
+                self.build(shape, Type::Invalid)
+            }
+            Err(error) => Self::answer_inst(Err(error)),
+        }
     }
 
     /// `call function(x, ..)`: calls a function that was imported, with these arguments. The results of the instruction are
     /// what the function's signature returns.
-    final fn call(&mut self, function: FuncRef, args: &[Value]) -> Result<Inst, BuildError>
+    final fn call(&mut self, function: FuncRef, args: &[Value]) -> Self::InstAnswer
         requires current { Self.can_build self.old }
         requires args_exist { All (Self.has_value self.old) args.now }
         requires function_exists { Self.has_entry self.old (AFunctionRef function) }
@@ -543,7 +530,7 @@ pub trait InstBuilder: InstBuilderBase {
                 let func_ref = function;
                 self.build(InstructionData::Call { func_ref, args }, Type::Invalid)
             }
-            Err(_) => Err(self.refuse()),
+            Err(_) => Self::answer_inst(Err(self.refuse())),
         }
     }
 
@@ -554,7 +541,7 @@ pub trait InstBuilder: InstBuilderBase {
         sig: SigRef,
         callee: Value,
         args: &[Value],
-    ) -> Result<Inst, BuildError>
+    ) -> Self::InstAnswer
         requires current { Self.can_build self.old }
         requires callee_exists { Self.has_value self.old callee }
         requires args_exist { All (Self.has_value self.old) args.now }
@@ -569,7 +556,7 @@ pub trait InstBuilder: InstBuilderBase {
                     Type::Invalid,
                 )
             }
-            Err(_) => Err(self.refuse()),
+            Err(_) => Self::answer_inst(Err(self.refuse())),
         }
     }
 
@@ -585,26 +572,30 @@ pub trait InstBuilder: InstBuilderBase {
         function: FuncRef,
         args: &[Value],
         exception: ExceptionTable,
-    ) -> Result<Inst, BuildError>
+    ) -> Self::InstAnswer
         requires current { Self.can_build self.old }
         requires args_exist { All (Self.has_value self.old) args.now }
         requires function_exists { Self.has_entry self.old (AFunctionRef function) }
         requires serves { Self.has_exception_table self.old exception }
-        ensures built { GrowsThenTakes Self.takes_exception Self.builds self.old self.new
-            (try_call function args.now) exception Type.Invalid result }
+        ensures built { GrowsThenAnswers Self.answer_inst Self.takes_exception Self.builds
+            self.old self.new (try_call function args.now) exception Type.Invalid result }
     {
         match ValueList::from_slice(self.allocator(), args) {
             Ok(args) => {
                 let func_ref = function;
-                let exception = self.take_exception_table(exception)?;
-                let shape = InstructionData::TryCall {
-                    func_ref,
-                    args,
-                    exception,
-                };
-                self.build(shape, Type::Invalid)
+                match self.take_exception_table(exception) {
+                    Ok(exception) => {
+                        let shape = InstructionData::TryCall {
+                            func_ref,
+                            args,
+                            exception,
+                        };
+                        self.build(shape, Type::Invalid)
+                    }
+                    Err(error) => Self::answer_inst(Err(error)),
+                }
             }
-            Err(_) => Err(self.refuse()),
+            Err(_) => Self::answer_inst(Err(self.refuse())),
         }
     }
 
@@ -616,39 +607,41 @@ pub trait InstBuilder: InstBuilderBase {
         callee: Value,
         args: &[Value],
         exception: ExceptionTable,
-    ) -> Result<Inst, BuildError>
+    ) -> Self::InstAnswer
         requires current { Self.can_build self.old }
         requires callee_exists { Self.has_value self.old callee }
         requires args_exist { All (Self.has_value self.old) args.now }
         requires serves { Self.has_exception_table self.old exception }
-        ensures built { GrowsThenTakes Self.takes_exception Self.builds self.old self.new
-            (try_call_indirect callee args.now) exception Type.Invalid result }
+        ensures built { GrowsThenAnswers Self.answer_inst Self.takes_exception Self.builds
+            self.old self.new (try_call_indirect callee args.now) exception Type.Invalid result }
     {
         match callee_and_args(self.allocator(), callee, args) {
-            Ok(args) => {
-                let exception = self.take_exception_table(exception)?;
-                let shape = InstructionData::TryCallIndirect { args, exception };
-                self.build(shape, Type::Invalid)
-            }
-            Err(_) => Err(self.refuse()),
+            Ok(args) => match self.take_exception_table(exception) {
+                Ok(exception) => {
+                    let shape = InstructionData::TryCallIndirect { args, exception };
+                    self.build(shape, Type::Invalid)
+                }
+                Err(error) => Self::answer_inst(Err(error)),
+            },
+            Err(_) => Self::answer_inst(Err(self.refuse())),
         }
     }
 
     /// `return x, ..`: ends the function with these values, which the signature gives the types of. The current
     /// block is filled afterwards.
-    final fn return_(&mut self, values: &[Value]) -> Result<Inst, BuildError>
+    final fn return_(&mut self, values: &[Value]) -> Self::InstAnswer
         requires current { Self.can_build self.old }
         requires values_exist { All (Self.has_value self.old) values.now }
         ensures built { Self.builds self.old self.new (multi_ary values.now) Type.Invalid result }
     {
         match ValueList::from_slice(self.allocator(), values) {
             Ok(args) => self.build(InstructionData::MultiAry { args }, Type::Invalid),
-            Err(_) => Err(self.refuse()),
+            Err(_) => Self::answer_inst(Err(self.refuse())),
         }
     }
 
     /// An instruction of a number alone.
-    final fn unary_imm(&mut self, ty: Type, imm: i64) -> Result<Value, BuildError>
+    final fn unary_imm(&mut self, ty: Type, imm: i64) -> Self::ValueAnswer
         requires current { Self.can_build self.old }
         ensures built { Self.builds_value self.old self.new (unary_imm imm) ty result }
     {
@@ -661,17 +654,19 @@ pub trait InstBuilder: InstBuilderBase {
         opcode: PooledConstOpcode,
         ty: Type,
         bytes: &[u8],
-    ) -> Result<Value, BuildError>
+    ) -> Self::ValueAnswer
         requires current { Self.can_build self.old }
-        ensures built { PoolsThenBuilds Self.pools Self.builds_value self.old self.new
-            (unary_const opcode) bytes.now ty result }
+        ensures built { PoolsThenAnswers Self.answer_value Self.pools Self.builds_value
+            self.old self.new (unary_const opcode) bytes.now ty result }
     {
-        let constant = self.pool_constant(bytes)?;
-        self.build_value(InstructionData::UnaryConst { opcode, constant }, ty)
+        match self.pool_constant(bytes) {
+            Ok(constant) => self.build_value(InstructionData::UnaryConst { opcode, constant }, ty),
+            Err(error) => Self::answer_value(Err(error)),
+        }
     }
 
     /// An instruction of one operand, whose result has its type.
-    final fn unary(&mut self, opcode: UnaryOpcode, x: Value) -> Result<Value, BuildError>
+    final fn unary(&mut self, opcode: UnaryOpcode, x: Value) -> Self::ValueAnswer
         requires current { Self.can_build self.old }
         requires x_exists { Self.has_value self.old x }
         ensures built { Self.builds_like self.old self.new (unary opcode x) x result }
@@ -680,12 +675,7 @@ pub trait InstBuilder: InstBuilderBase {
     }
 
     /// An instruction of two operands, whose result has the type of the first.
-    final fn binary(
-        &mut self,
-        opcode: BinaryOpcode,
-        x: Value,
-        y: Value,
-    ) -> Result<Value, BuildError>
+    final fn binary(&mut self, opcode: BinaryOpcode, x: Value, y: Value) -> Self::ValueAnswer
         requires current { Self.can_build self.old }
         requires x_exists { Self.has_value self.old x }
         requires y_exists { Self.has_value self.old y }
@@ -702,7 +692,7 @@ pub trait InstBuilder: InstBuilderBase {
         ty: Type,
         slot: StackSlot,
         offset: i32,
-    ) -> Result<Value, BuildError>
+    ) -> Self::ValueAnswer
         requires current { Self.can_build self.old }
         requires slot_exists { Self.has_entry self.old (ASlot slot) }
         ensures built { Self.builds_value self.old self.new (stack opcode slot offset) ty result }
@@ -721,7 +711,7 @@ pub trait InstBuilder: InstBuilderBase {
         opcode: CondTrapOpcode,
         c: Value,
         code: TrapCode,
-    ) -> Result<Inst, BuildError>
+    ) -> Self::InstAnswer
         requires current { Self.can_build self.old }
         requires c_exists { Self.has_value self.old c }
         ensures built { Self.builds self.old self.new (cond_trap opcode c code) Type.Invalid result }
@@ -735,12 +725,7 @@ pub trait InstBuilder: InstBuilderBase {
     }
 
     /// An instruction of one operand, whose result has a type that is given.
-    final fn convert(
-        &mut self,
-        opcode: ConvertOpcode,
-        ty: Type,
-        x: Value,
-    ) -> Result<Value, BuildError>
+    final fn convert(&mut self, opcode: ConvertOpcode, ty: Type, x: Value) -> Self::ValueAnswer
         requires current { Self.can_build self.old }
         requires x_exists { Self.has_value self.old x }
         ensures built { Self.builds_value self.old self.new (convert opcode x) ty result }

@@ -15,6 +15,8 @@ mod functions;
 #[cfg(test)]
 mod instructions;
 #[cfg(test)]
+mod recorder;
+#[cfg(test)]
 mod steps;
 #[cfg(test)]
 mod support;
