@@ -14,6 +14,7 @@ pub mod Name
 pub mod SameType
 pub mod Request
 pub mod Ledger
+pub mod Sizes
 pub mod Acceptance
 pub mod Program
 pub mod ScriptMachine

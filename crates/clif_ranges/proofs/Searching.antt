@@ -14,7 +14,7 @@ use Rattle.clif_ranges.specs.declared.search.Node.{Node}
 use Rattle.clif_ranges.specs.declared.search.Test.{Test}
 use Rattle.clif_ranges.specs.declared.search.Test.TheVariants as test
 use Rattle.clif_ranges.specs.Ranges.{end_of}
-use Rattle.clif_ranges.specs.Search.{AddsNodes, AddsRange, AreInOrder, ComesBefore, FindsCases, TestsRange, Found, behind_a_branch, block_in, block_of_key, first_named, first_of, goes_on, number_of, search, tested, AreTestsOf, IsTestOf, is_long, is_table}
+use Rattle.clif_ranges.specs.Search.{AddsNodes, AddsRange, AreInOrder, ComesBefore, FindsCases, TestsRange, Found, behind_a_branch, block_in, block_of_key, first_named, first_of, goes_on, number_of, search, tested, AreFew, AreTestsOf, IsTestOf, is_long, is_table}
 
 same_number : (n : ℕ) → (n == n) ≡ true
 same_number n = grind (arith, nat_tests)
@@ -128,6 +128,10 @@ both_tested low high lows highs of_low of_high = record {
     swapped : (a b : ℕ) → a + b ≡ b + a
     swapped a b = omega arith
 
+-- how many ranges of both parts have a table
+long_ranges : (low high : List CaseRange) → count_by is_long (low ++ high) ≡ count_by is_long low + count_by is_long high
+long_ranges low high = sum_by-append (λ r. cond (is_long r) 1 0) low high
+
 -- a branch at a range's first key before them
 behind_test : (ranges : List CaseRange) (number first above : ℕ) (other : Next) (nodes : List Node) → (range : CaseRange) × Contains ranges range × (range.first ≡ first)
     → AreTestsOf ranges nodes → AreTestsOf ranges (record { number = number; test = test.NotBelow first above other } ∷ nodes)
@@ -215,6 +219,7 @@ split_adds low high first next number b c old mid nodes new before ends begins_a
   is = lows.is ∙ ap (λ xs. xs ++ lows.added) (highs.is ∙ ap (λ xs. xs ++ highs.added) made) ∙ ap (λ xs. xs ++ lows.added) (append_assoc old _ highs.added) ∙ append_assoc old _ lows.added;
   rises = omega (arith, highs.rises, lows.rises);
   few = omega (arith, highs.few, lows.few, length-append low high);
+  small = omega (arith, highs.small, lows.small, length-append low high, length-append highs.added lows.added, long_ranges low high);
   numbers = both_numbers low high first next number b c highs.added lows.added before highs.rises lows.rises ends begins_at highs.numbers lows_numbered highs.find lows.find;
   tests = behind_test (low ++ high) number first (next + 1) (goes.Node next) (highs.added ++ lows.added)
       (begins_one.0, Contains-append_right low high begins_one.0 begins_one.1, begins_one.2) (both_tested low high lows.added highs.added lows.tests highs.tests);
@@ -258,6 +263,7 @@ one_key_adds range next number other old new earlier one made = record {
   is = made;
   rises = omega arith;
   few = omega arith;
+  small = omega arith;
   numbers = All-push (IsNumbered number next next) [] node (All-nil (IsNumbered number next next)) (inl refl);
   order = order other earlier;
   tests_of = record { tests = (((0, omega arith, refl), one), tt); tables = ap (λ (n : ℕ). 0 + cond (nat_lt 1 n) 1 0) (sym one) };
@@ -289,6 +295,9 @@ one_key_adds range next number other old new earlier one made = record {
 is_so : {n : ℕ} → 1 < n → nat_lt 1 n ≡ true
 is_so more = grind (arith, nat_tests)
 
+one_long : (range : CaseRange) → 1 < length range.blocks.items → 2 ≤ 1 + count_by is_long (range ∷ [])
+one_long range long = let is : count_by is_long (range ∷ []) ≡ 1 = ap (λ (c : Bool). 0 + cond c 1 0) (is_so long) in omega (arith, is)
+
 -- a range of several keys from 0 on: its table
 pub table_adds : (range : Bor CaseRange) (next number : ℕ) (other : Next) (old new : List Node) → other ≡ goes.Otherwise → range.now.first ≡ 0 → 1 < length range.now.blocks.items
     → new ≡ old ++ record { number = number; test = test.Table range } ∷ [] → AddsRange range.now next number other old new next
@@ -297,6 +306,7 @@ table_adds range next number other old new nowhere zero_first long made = record
   is = made;
   rises = omega arith;
   few = omega arith;
+  small = omega arith;
   numbers = All-push (IsNumbered number next next) [] node (All-nil (IsNumbered number next next)) (inl refl);
   order = λ waiting rest after.
       subst (λ o. AreInOrder (number_of o ++ waiting) next rest → AreInOrder (number ∷ waiting) (first_named o next) (node ∷ rest)) (sym nowhere)
@@ -321,6 +331,7 @@ range_adds range next number other old mid new before earlier long first_made ma
   is = made ∙ ap (λ xs. xs ++ table ∷ []) first_made ∙ append_assoc old (node ∷ []) (table ∷ []);
   rises = omega arith;
   few = omega arith;
+  small = one_long range.now long;
   numbers = All-push (IsNumbered number next (next + 1)) (node ∷ []) table
       (All-push (IsNumbered number next (next + 1)) [] node (All-nil (IsNumbered number next (next + 1))) (inl refl)) (inr (omega arith, omega arith));
   order = order other earlier;
@@ -375,6 +386,7 @@ alone_adds range next number b old new adds = record {
   is = adds.is;
   rises = adds.rises;
   few = omega (arith, adds.few);
+  small = omega (arith, adds.small);
   numbers = adds.numbers;
   tests = adds.tests_of;
   find = λ rest. record {
@@ -407,6 +419,7 @@ line_adds lower range next number b c old mid new some most ends adds lows = rec
   is = lows.is ∙ ap (λ xs. xs ++ lows.added) adds.is ∙ append_assoc old adds.added lows.added;
   rises = omega (arith, adds.rises, lows.rises);
   few = omega (arith, adds.few, lows.few, whole);
+  small = omega (arith, adds.small, lows.small, whole, length-append adds.added lows.added, long_ranges lower (range ∷ []));
   numbers =
       All-append (IsNumbered number next c) adds.added lows.added
       (All-weaker (IsNumbered number (next + 1) b) (IsNumbered number next c) (wider number (next + 1) b number next c (inl refl) (omega arith) lows.rises) adds.added adds.numbers)
@@ -449,6 +462,12 @@ line_adds lower range next number b c old mid new some most ends adds lows = rec
 pub nothing_tested : (ranges : List CaseRange) (nodes : List Node) → length ranges ≡ 0 → nodes ≡ record { number = 0; test = test.Nothing } ∷ [] → AreTestsOf ranges nodes
 nothing_tested [] nodes none are = subst (AreTestsOf []) (sym are) (record { tests = (tt, tt); tables = refl })
 nothing_tested (range ∷ ranges) nodes none are = absurd (omega (arith, none))
+
+pub nothing_few : (ranges : List CaseRange) (nodes : List Node) → nodes ≡ record { number = 0; test = test.Nothing } ∷ [] → AreFew ranges nodes
+nothing_few ranges nodes are = let one = ap length are in omega (arith, one)
+
+pub added_few : (ranges : List CaseRange) (nodes added : List Node) → nodes ≡ added → length added < 2 * length ranges + count_by is_long ranges → AreFew ranges nodes
+added_few ranges nodes added are small = let same = ap length are in omega (arith, same, small)
 
 -- no case
 pub nothing_to_find : (ranges : List CaseRange) (nodes : List Node) → length ranges ≡ 0 → nodes ≡ record { number = 0; test = test.Nothing } ∷ [] → FindsCases ranges nodes 0

@@ -1,6 +1,6 @@
 -- The search tree of a switch: which tests find the case of a key. Source: the module `switch` of cranelift-frontend, whose blocks
 -- these are; own, that they stand in a list in which control goes forward.
-use Rattle.std.specs.Prelude.{◌≡◌, ℕ, suc, ◌+◌, ◌-◌, ◌^◌, ◌≤◌, ◌<◌, ◌*◌, ◌⊎◌, ◌==◌, nat_lt, if◌then◌else◌, Bool, true, false, List, [], ◌∷◌, ◌++◌, length, reverse, slice_get, Option, Some, None, All, AllPairs, Contains}
+use Rattle.std.specs.Prelude.{◌≡◌, ℕ, suc, ◌+◌, ◌-◌, ◌^◌, ◌≤◌, ◌<◌, ◌*◌, ◌⊎◌, ◌==◌, max, nat_lt, if◌then◌else◌, Bool, true, false, List, [], ◌∷◌, ◌++◌, length, reverse, slice_get, Option, Some, None, All, AllPairs, Contains}
 use Rattle.std.specs.List.{AllByRecursion, count_by}
 use Rattle.clif_ranges.specs.declared.ranges.CaseRange.{CaseRange}
 use Rattle.clif_ranges.specs.declared.search.Next.{Next}
@@ -121,6 +121,10 @@ pub record AreTestsOf (ranges : List CaseRange) (nodes : List Node) : Type 0 whe
   pub tests : AllByRecursion (λ node. IsTestOf ranges node.test) nodes
   pub tables : count_by is_table nodes ≡ count_by is_long ranges
 
+-- There are at most two nodes a range, and one for its table if it has one; or one node, where there is no range.
+abbrev pub AreFew : List CaseRange → List Node → Type 0
+AreFew ranges nodes = length nodes ≤ max 1 (2 * length ranges + count_by is_long ranges)
+
 -- Nodes were added that find the cases, whatever stands behind them. Their numbers are this one and those from `next` on, below
 -- `behind`.
 pub record AddsNodes (ranges : List CaseRange) (next number : ℕ) (old new : List Node) (behind : ℕ) : Type 0 where
@@ -128,6 +132,7 @@ pub record AddsNodes (ranges : List CaseRange) (next number : ℕ) (old new : Li
   pub is : new ≡ old ++ added
   pub rises : next ≤ behind
   pub few : behind + 2 ≤ next + 3 * length ranges
+  pub small : length added < 2 * length ranges + count_by is_long ranges
   pub numbers : All (λ node. (node.number ≡ number) ⊎ ((next ≤ node.number) × (node.number < behind))) added
   pub tests : AreTestsOf ranges added
   pub find : (rest : List Node) → FindsCases ranges (added ++ rest) number
@@ -156,6 +161,7 @@ pub record AddsRange (range : CaseRange) (next number : ℕ) (other : Next) (old
   pub is : new ≡ old ++ added
   pub rises : next ≤ behind
   pub few : behind ≤ next + 1
+  pub small : length added ≤ 1 + count_by is_long (range ∷ [])
   pub numbers : All (λ node. (node.number ≡ number) ⊎ ((next ≤ node.number) × (node.number < behind))) added
   pub order : (waiting : List ℕ) (rest : List Node) → AreInOrder (number_of other ++ waiting) behind rest
       → AreInOrder (number ∷ waiting) (first_named other next) (added ++ rest)

@@ -3,7 +3,7 @@
 #![tactic(auto)]
 
 ghost use Rattle.std.specs.Prelude.{◌≡◌, ◌+◌, ◌*◌, ◌^◌, ◌<◌, ℕ, [], ◌∷◌, length, IfOk, OnErr, Err};
-ghost use Rattle.clif_ranges.specs.Search.{AddsNodes, AddsRange, AreInOrder, AreSeparate, AreTestsOf, ComesBefore, FindsCases, FindsEachKey};
+ghost use Rattle.clif_ranges.specs.Search.{AddsNodes, AddsRange, AreFew, AreInOrder, AreSeparate, AreTestsOf, ComesBefore, FindsCases, FindsEachKey};
 ghost use Rattle.clif_ranges.specs.declared.search.Next.TheVariants as Next;
 ghost use Rattle.clif_types.specs.declared.error.BuildError.TheVariants as BuildError;
 
@@ -64,6 +64,7 @@ pub fn search_tree<'r>(alloc: Global, ranges: &'r [CaseRange]) -> Result<Vec<Nod
     ensures cases { IfOk result (λ nodes. FindsEachKey ranges.now nodes.items) }
     ensures order { IfOk result (λ nodes. AreInOrder (0 ∷ []) 1 nodes.items) }
     ensures tests { IfOk result (λ nodes. AreTestsOf ranges.now nodes.items) }
+    ensures few { IfOk result (λ nodes. AreFew ranges.now nodes.items) }
     ensures only_memory { OnErr result (result ≡ Err BuildError.Memory) }
 {
     let mut nodes = Vec::new(alloc);

@@ -10,7 +10,7 @@ use Rattle.clif_instructions.proofs.Members.{if_true, if_false, Once-tail}
 use Rattle.clif_records.specs.declared.tables.Pending.{Pending}
 use Rattle.clif_records.specs.declared.tables.Recorded.{Recorded}
 use Rattle.clif_records.specs.Tables.{No, Sealed, Yes, is_yes, one_more, pending_of}
-use Rattle.clif_ssa.specs.Ssa.{SsaState, no_state, record_of, lookups_of, sealed_of, Records, SameBlocks, SameLookups, SameRecords, SealedStays, Seals, CountsLookup}
+use Rattle.clif_ssa.specs.Ssa.{SsaState, no_state, record_of, lookups_of, sealed_of, Records, RecordsStay, SameBlocks, SameLookups, SameRecords, SealedStays, Seals, CountsLookup}
 use Rattle.clif_ssa.specs.Structure.{LooksOnce}
 use Rattle.clif_ssa.specs.Running.{CountsOnce, ToComplete}
 use Rattle.clif_records.proofs.RecordMaps.{recorded_at-empty}
@@ -35,6 +35,13 @@ NoneLost s t = (v d : ℕ) → record_of t v d ≡ None → record_of s v d ≡ 
 
 pub none_lost : (s t : SsaState) → SameRecords s t → NoneLost s t
 none_lost s t same v d none = sym (same v d) ∙ none
+
+pub stay_lost : (s t : SsaState) → RecordsStay s t → NoneLost s t
+stay_lost s t stay x b none = by (record_of s x b) refl
+  where
+    by : (o : Option ℕ) → record_of s x b ≡ o → record_of s x b ≡ None
+    by None is = is
+    by (Some v) is = absurd (some_none (sym (stay x b v is) ∙ none))
 
 -- nothing was looked up where nothing is known
 pub nothing_looked : LooksOnce no_state
@@ -109,7 +116,7 @@ records_kept s t x b v recorded y c none = written (y == x && c == b) v (record_
 pub once_recorded : (s t : SsaState) (x b v : ℕ) → Records s t x b v → SameLookups s t → SameBlocks s t → CountsOnce s t
 once_recorded s t x b v recorded lookups blocks = once_kept s t (records_kept s t x b v recorded) lookups blocks
 
-here_recorded : (s t : SsaState) (x b v : ℕ) → Records s t x b v → record_of t x b ≢ None
+pub here_recorded : (s t : SsaState) (x b v : ℕ) → Records s t x b v → record_of t x b ≢ None
 here_recorded s t x b v recorded none =
     let at : record_of t x b ≡ Some v = recorded x b ∙ grind (arith, common_steps) in
     some_none (sym at ∙ none)

@@ -29,7 +29,9 @@ pub mod SealPools
 pub mod Zeroing
 pub mod Completing
 pub mod Sealing
+pub mod Seals
 pub mod Using
+pub mod Uses
 pub mod Writing
 pub mod Leading
 pub mod Born
@@ -66,6 +68,9 @@ pub mod StructuredFinish
 pub mod StructuredLaws
 pub mod StructuredUses
 pub mod StructuredPublic
+pub mod Counted
+pub mod CountedSteps
+pub mod CountedLooks
 pub mod Grown
 pub mod Within
 pub mod WithinUses

@@ -267,6 +267,28 @@ found c frames tables b m n start finds =
 
 -- A NEW PARAMETER -------------------------------------------------------------------------------------------------
 
+-- it is recorded where nothing was
+module _ (x : ℕ) (ty : «Type») (b reached : ℕ) (m n : Stage) (adds : AddsParameter x ty b reached m n) where
+  pub added_stays : RecordsStay m.state n.state
+  added_stays =
+      copies_stay m.state n.state x (length m.function.values) (reached ∷ before_first reached adds.passed) adds.copies
+      (λ d here.
+      elim (cases_eq reached d) [
+        | inl same ↦ ap (record_of m.state x) (sym same) ∙ adds.unrecorded
+        | inr other ↦
+            walk_unrecorded m.function m.state x (before_first reached adds.passed) b reached
+            (walk_first m.function m.state x adds.passed b reached adds.walks.walk) d
+            (sym (ap (λ t. t || stands_in d (before_first reached adds.passed)) (test_false reached d other)) ∙ here)
+      ])
+
+  pub added_recorded : record_of n.state x reached ≡ Some (length m.function.values)
+  added_recorded =
+      let passed : List ℕ = before_first reached adds.passed in
+      let old : Option ℕ = record_of m.state x reached in
+      adds.copies x reached
+      ∙ ap (λ t. if t && ((reached == reached) || stands_in reached passed) then Some (length m.function.values) else old) (test_true x x refl)
+      ∙ ap (λ t. if t || stands_in reached passed then Some (length m.function.values) else old) (test_true reached reached refl)
+
 -- the tables with the new parameter, which is recorded in the blocks passed too
 abbrev with_new : Setting → Blocks → Stage → ℕ → List ℕ → Blocks
 with_new c tables m reached passed =
@@ -285,23 +307,10 @@ module _ (c : Setting) (frames : List Frame) (tables : Blocks) (b : ℕ) (m n : 
       walk_reaches m.function m.state c.variable adds.passed b reached (stand_since c.function c.state m.function m.state start.base.stand start.base.since) adds.walks.walk start.there
 
   stays : RecordsStay m.state n.state
-  stays =
-      copies_stay m.state n.state c.variable (length m.function.values) (reached ∷ before_first reached adds.passed) adds.copies
-      (λ d here.
-      elim (cases_eq reached d) [
-        | inl same ↦ ap (record_of m.state c.variable) (sym same) ∙ adds.unrecorded
-        | inr other ↦
-            walk_unrecorded m.function m.state c.variable (before_first reached adds.passed) b reached walk_there d
-            (sym (ap (λ t. t || stands_in d (before_first reached adds.passed)) (test_false reached d other)) ∙ here)
-      ])
+  stays = added_stays c.variable ty b reached m n adds
 
   new_recorded : record_of n.state c.variable reached ≡ Some (length m.function.values)
-  new_recorded =
-      let passed : List ℕ = before_first reached adds.passed in
-      let old : Option ℕ = record_of m.state c.variable reached in
-      adds.copies c.variable reached
-      ∙ ap (λ t. if t && ((reached == reached) || stands_in reached passed) then Some (length m.function.values) else old) (test_true c.variable c.variable refl)
-      ∙ ap (λ t. if t || stands_in reached passed then Some (length m.function.values) else old) (test_true reached reached refl)
+  new_recorded = added_recorded c.variable ty b reached m n adds
 
   -- the new parameter is a result for what the frames expect
   new_finds : Finds (with_new c tables m reached (before_first reached adds.passed)) (comes_from c) c.variable c.first frames b (length m.function.values)

@@ -22,7 +22,7 @@ use Rattle.clif_ssa.specs.Sealing.{SealsLocally, SealsByLookUp, SealsBelow, none
 use Rattle.clif_ssa.specs.Tracked.{IsMadeForMarked, TracksMade}
 use Rattle.clif_ssa.specs.Zeros.{steps_before}
 use Rattle.clif_ssa.proofs.Grown.{Grown, grown_none, grown_param, grown_alias, grown_zeroed, grown_arguments}
-use Rattle.clif_ssa.proofs.Looking.{copies_stay, walk_first, walk_unrecorded}
+use Rattle.clif_ssa.proofs.Looking.{added_recorded, added_stays, copies_stay, walk_unrecorded}
 use Rattle.clif_ssa.proofs.Steps.{stay_recorded}
 
 none_some : {v : ℕ} → ◌≡◌ {A = Option ℕ} None (Some v) → ⊥
@@ -270,19 +270,9 @@ module _ (count : ℕ) (s : SsaState) where
         values = grown_to m.function n.function gains.values (subst (Grown anywhere m.function) (sym adds.function) (grown_param anywhere m.function reached ty refl));
         tracks =
             tracks_bound count s m.state n.state x reached (length m.function.values) gains.values
-            (copies_stay m.state n.state x (length m.function.values) blocks adds.copies (none_there adds))
-            (written_here m.state n.state x reached (length m.function.values) (λ c. stands_in c blocks) adds.copies (grind (arith, common_steps)))
+            (added_stays x ty block reached m n adds) (added_recorded x ty block reached m n adds)
             (written m.state n.state x (length m.function.values) (λ c. stands_in c blocks) adds.copies) adds.tracking gains.tracks;
       }
-    where
-      none_there : (adds : AddsParameter x ty block reached m n) → (b : ℕ) → stands_in b (reached ∷ before_first reached adds.passed) ≡ true → record_of m.state x b ≡ None
-      none_there adds b there = by (reached == b) refl there
-        where
-          by : (test : Bool) → (reached == b) ≡ test → (test || stands_in b (before_first reached adds.passed)) ≡ true → record_of m.state x b ≡ None
-          by true here now = let same : b ≡ reached = grind (arith, common_steps, here) in ap (record_of m.state x) same ∙ adds.unrecorded
-          by false other now =
-              walk_unrecorded m.function m.state x (before_first reached adds.passed) block reached
-              (walk_first m.function m.state x adds.passed block reached adds.walks.walk) b now
 
   looks_gains : (x : ℕ) (ty : «Type») (block : ℕ) (m n : Stage) → Gains count s m → LooksUp x ty block m n → Gains count s n
   looks_gains x ty block m n gains (inl finds) = found_gains x block m n gains finds

@@ -9,6 +9,7 @@ pub mod Running
 pub mod Sealing
 pub mod Limits
 pub mod Steps
+pub mod Counted
 pub mod Sound
 pub mod SoundLaws
 pub mod Structure

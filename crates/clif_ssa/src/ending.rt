@@ -4,6 +4,7 @@ ghost use Rattle.std.specs.Option.{option_to_list};
 ghost use Rattle.clif_ir.specs.Reading.{param_home};
 ghost use Rattle.clif_ssa.specs.Constructs.{OnlyConstructs, TellsZeros, TellsMore};
 ghost use Rattle.clif_ir.specs.Body.{value_at};
+ghost use Rattle.clif_ssa.specs.Counted.{AddsAtMost};
 ghost use Rattle.clif_ssa.specs.Pools.{MayPool, UseIsFull};
 ghost use Rattle.clif_ssa.specs.Ssa.{SsaState, predecessors_of, HasMore};
 ghost use Rattle.clif_ssa.specs.LookUp.{EndsLookUp, IsNoParameter, FinishesLookUp, with_arguments};
@@ -70,6 +71,7 @@ pub(crate) fn pass_arguments(
     ensures more { HasMore func.old func.new }
     ensures constructs { OnlyConstructs func.old func.new }
     ensures tables { func.new.tables ≡ func.old.tables }
+    ensures at_most { AddsAtMost 0 func.old func.new }
     ensures tells { TellsZeros func.old func.new [] }
     ensures only_memory { OnErr result (result ≡ Err BuildError.Memory) }
 {
@@ -102,6 +104,7 @@ pub(crate) fn end_look_up(
     ensures more { HasMore func.old func.new }
     ensures constructs { OnlyConstructs func.old func.new }
     ensures tells { IfOk result (λ e. TellsZeros func.old func.new (option_to_list e.zero)) }
+    ensures at_most { AddsAtMost 2 func.old func.new }
     ensures pools { MayPool (value_at func.old param).ty func.old.tables func.new.tables }
     ensures full { result ≡ Err BuildError.Full → UseIsFull (value_at func.old param).ty func.new }
     ensures never_failed { result ≢ Err BuildError.Failed }
@@ -145,6 +148,7 @@ fn end_or_stay(
     ensures more { HasMore func.old func.new }
     ensures constructs { OnlyConstructs func.old func.new }
     ensures tells { IfOk result (λ e. TellsZeros func.old func.new (option_to_list e.zero)) }
+    ensures at_most { AddsAtMost 2 func.old func.new }
     ensures pools { MayPool (value_at func.old param).ty func.old.tables func.new.tables }
     ensures full { result ≡ Err BuildError.Full → UseIsFull (value_at func.old param).ty func.new }
     ensures never_failed { result ≢ Err BuildError.Failed }
@@ -181,6 +185,7 @@ pub(crate) fn finish_look_up(
     ensures more { HasMore func.old func.new }
     ensures constructs { OnlyConstructs func.old func.new }
     ensures tells { OnOk result (TellsMore func.old func.new look_up.old.zeros look_up.new.zeros) }
+    ensures at_most { AddsAtMost 2 func.old func.new }
     ensures pools { MayPool (value_at func.old param).ty func.old.tables func.new.tables }
     ensures full { result ≡ Err BuildError.Full → UseIsFull (value_at func.old param).ty func.new }
     ensures never_failed { result ≢ Err BuildError.Failed }

@@ -12,7 +12,8 @@
 //! value go on doing so (`specs/Structure`). `constructs` says that zeros at the front of blocks, parameters, arguments
 //! of edges and aliases change and nothing else, also where a call fails, and `tells` that the block of each zero is
 //! told, in order (`specs/Constructs`). `structured` says what is so of blocks, parameters and edges in every program
-//! (`specs/Structured`).
+//! (`specs/Structured`). `counts` says how much is made, also where a table is full: for each variable and block at most
+//! one parameter, and for each parameter at most one zero (`specs/Counted`).
 #![tactic(auto)]
 
 mod ending;

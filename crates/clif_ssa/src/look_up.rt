@@ -1,7 +1,8 @@
 //! The machine that looks a variable up in blocks: the tables of the construction with two stacks, of calls and of results.
-ghost use Rattle.std.specs.Prelude.{◌≡◌, ◌<◌, List, [], ◌∷◌, Some, length, OnOk, IfOk, Contains, ◌-◌, true};
+ghost use Rattle.std.specs.Prelude.{◌≡◌, ◌<◌, List, [], ◌∷◌, Some, length, OnOk, IfOk, Contains, ◌-◌, ◌*◌, true};
 ghost use Rattle.clif_ir.specs.Body.{value_at};
 ghost use Rattle.clif_ssa.specs.Constructs.{TellsMore};
+ghost use Rattle.clif_ssa.specs.Counted.{finishes, AreBelow, StepCounts, StepStops};
 ghost use Rattle.clif_ssa.specs.Pools.{types_of, SealingIsFull, UseIsFull};
 ghost use Rattle.clif_records.specs.Pages.{HasNoPage, page_number};
 ghost use Rattle.clif_records.specs.declared.tables.Pending.{Pending};
@@ -44,6 +45,7 @@ impl SsaTables {
         ensures tells { OnOk result (TellsMore func.old func.new look_up.old.zeros
             look_up.new.zeros) }
         ensures ends { StepEnds (UseIsFull ty) func.new result }
+        ensures stops { StepStops 0 func.old self.old func.new self.new result }
     {
         func.law_consistent();
         let reached = self.walk(func, variable, block, has_no_page, passed)?;
@@ -72,6 +74,8 @@ impl SsaTables {
             look_up.new.zeros) }
         ensures exists { IfOk result (λ v. v < length func.new.values) }
         ensures ends { StepEnds (UseIsFull ty) func.new result }
+        ensures counts { StepCounts (◌<◌ variable) (finishes look_up.old.calls) func.old self.old
+            func.new self.new result }
     {
         while let Some(call) = look_up.next_call() {
             self.make_call(func, variable, ty, call, passed, look_up)?;
@@ -99,6 +103,8 @@ impl SsaTables {
         ensures tells { OnOk result (TellsMore func.old func.new look_up.old.zeros
             look_up.new.zeros) }
         ensures ends { StepEnds (UseIsFull ty) func.new result }
+        ensures stops { StepStops (2 * finishes (call ∷ [])) func.old self.old func.new self.new
+            result }
     {
         match call {
             Call::UseVar(branch) => {
@@ -139,6 +145,8 @@ impl SsaTables {
         ensures looks_once { (rest : List Pending) → ToComplete self.old block (waiting ∷ rest)
             → ToComplete self.new block rest }
         ensures ends { StepEnds (UseIsFull (value_at func.old waiting.param).ty) func.new result }
+        ensures counts { StepCounts (◌<◌ waiting.variable) 1 func.old self.old func.new self.new
+            result }
     {
         let Pending { variable, param } = waiting;
         let ty = func.value_type(param);
@@ -170,6 +178,8 @@ impl SsaTables {
         ensures looks_once { ToComplete self.old block waiting.now → LooksOnce self.new }
         ensures ends { StepEnds (SealingIsFull (Contains
             (types_of func.old waiting.now))) func.new result }
+        ensures counts { StepCounts (λ variables. AreBelow variables waiting.now)
+            (length waiting.now) func.old self.old func.new self.new result }
     {
         for pending in waiting.iter() {
             self.complete_parameter(func, block, *pending, passed, look_up)?;

@@ -4,6 +4,7 @@ ghost use Rattle.std.specs.FinMap as map;
 ghost use Rattle.clif_ir.specs.Body.{Body, block_at};
 ghost use Rattle.clif_instructions.specs.Members.{Stands};
 ghost use Rattle.clif_ssa.specs.Constructs.{OnlyConstructs, TellsZeros};
+ghost use Rattle.clif_ssa.specs.Counted.{StepCounts, WaitsBelow};
 ghost use Rattle.clif_ssa.specs.Limits.{ConstructionIsFull};
 ghost use Rattle.clif_ssa.specs.Moving.{MovesBranch};
 ghost use Rattle.clif_ssa.specs.Pools.{types_of, MayPool, MayPoolAll, MayPoolWaiting, SealingIsFull, UseIsFull, WaitsWithType};
@@ -22,7 +23,7 @@ ghost use Rattle.clif_ssa.specs.Lending.{lends_builder_recorded};
 ghost use Rattle.clif_ssa.specs.LookUp.{branch_block, UsesVariable};
 ghost use Rattle.clif_ssa.specs.Running.{stage, found};
 ghost use Rattle.clif_ssa.specs.Sealing.{SealsBelow, SealsOne, SealsLocally, SealsByLookUp};
-ghost use Rattle.clif_ssa.specs.Steps.{SealKeeps, SealMakes, StepEnds, StepPools};
+ghost use Rattle.clif_ssa.specs.Steps.{SealAllGives, SealAllKeeps, SealAllMakes, SealBlockGives, SealKeeps, SealMakes, StepEnds, StepLeaves, StepPools, UseGives, UseMakes};
 ghost use Rattle.clif_ssa.specs.Tracked.{TracksMade};
 ghost use Rattle.clif_ssa.specs.Zeros.{steps_before};
 ghost use Rattle.clif_ssa.specs.Within.{HoldsBranches, HoldsWaiting, StaysWithin};
@@ -383,65 +384,14 @@ impl SSABuilder {
     ) -> Result<(Value, SideEffects), BuildError>
         requires exists { block < length func.old.blocks }
         requires named { Named func.old self.old }
-        ensures known { IfSome (record_of self.old variable block) (λ v. OnOk result
-            ((func.new ≡ func.old) × (self.new ≡ self.old)) × IfOk result (λ r. (r.0 ≡ v)
-            × (r.1.instructions_added_to_blocks.items ≡ []))) }
-        ensures waits { record_of self.old variable block ≡ None
-            → is_yes (sealed_of self.old block) ≡ false
-            → OnOk result (Waits self.old self.new func.old func.new variable ty block)
-            × IfOk result (λ r. (r.0 ≡ length func.old.values)
-            × (r.1.instructions_added_to_blocks.items ≡ [])) }
-        ensures zero { record_of self.old variable block ≡ None
-            → is_yes (sealed_of self.old block) ≡ true → predecessors_of self.old block ≡ []
-            → OnOk result (Zeroes self.old self.new func.old func.new variable ty block)
-            × IfOk result (λ r. (r.0 ≡ length func.old.values + 1 + steps_before ty)
-            × (r.1.instructions_added_to_blocks.items ≡ block ∷ [])) }
-        ensures counts_none { record_of self.old variable block ≡ None
-            → is_yes (sealed_of self.old block) ≡ false
-            → OnOk result (SameLookups self.old self.new) }
-        ensures counts_one { record_of self.old variable block ≡ None
-            → is_yes (sealed_of self.old block) ≡ true → predecessors_of self.old block ≡ []
-            → OnOk result (CountsLookup self.old self.new variable block) }
-        ensures looks { record_of self.old variable block ≡ None
-            → is_yes (sealed_of self.old block) ≡ true → predecessors_of self.old block ≢ []
-            → IfOk result (λ r. UsesVariable variable ty block
-            (stage func.old self.old no_look_up) r.0 (stage func.new self.new
-            (found r.0 r.1.instructions_added_to_blocks.items))) }
-        ensures keeps { (own : Own) (tables : Blocks)
-            → DescribesSoundly own func.old self.old tables
-            → IfOk result (λ r. KeepsAndKnows own tables func.new self.new block variable r.0) }
-        ensures recorded { IfOk result (λ r. HasRecordOf func.new self.new variable block r.0) }
-        ensures remembers { (x b : ℕ) → OnOk result
-            (Remembers x b func.old self.old func.new self.new) }
-        ensures parameters { IsLocal self.old variable block
-            → is_yes (sealed_of self.old block) ≡ true → (b : ℕ)
-            → OnOk result ((block_at func.new b).params ≡ (block_at func.old b).params) }
+        ensures makes { UseMakes variable ty block func.old self.old func.new self.new result }
+        ensures gives { IfOk result (λ r. UseGives variable ty block func.old self.old func.new
+            self.new r.0 r.1.instructions_added_to_blocks.items) }
+        ensures leaves { StepLeaves func.old self.old func.new self.new }
         ensures looks_once { LooksOnce self.old → LooksOnce self.new }
-        ensures structured { (types : VariableTypes) (own : Own) → ty ≡ types variable
-            → Structured types own func.old self.old []
-            → IfOk result (λ r. Structured types own func.new self.new []
-            × HasType func.new r.0 ty) }
-        ensures predecessors { SamePredecessors self.old self.new }
-        ensures stay { RecordsStay self.old self.new }
-        ensures flags { SealedStays self.old self.new }
-        ensures no_more { KnowsNoMore self.old self.new (length func.old.blocks) }
-        ensures more { HasMore func.old func.new }
-        ensures constructs { OnlyConstructs func.old func.new }
-        ensures tells { IfOk result (λ r. TellsZeros func.old func.new
-            r.1.instructions_added_to_blocks.items) }
-        ensures tracks { NamesExist func.old self.old
-            → OnOk result (TracksMade (length func.old.values) self.old self.new) }
-        ensures within { (holds : ℕ → Bool) → HoldsBranches func.old self.old holds
-            → holds block ≡ true → IfOk result (λ r. StaysWithin holds func.old func.new
-            r.1.instructions_added_to_blocks.items) }
-        ensures names { NamesExist func.old self.old → NamesExist func.new self.new }
-        ensures exists { NamesExist func.old self.old
-            → IfOk result (λ r. r.0 < length func.new.values) }
         ensures pools { MayPool ty func.old.tables func.new.tables }
-        ensures full { result ≡ Err BuildError.Full → UseIsFull ty func.new }
-        ensures err { IsLocal self.old variable block
-            → OnErr result (SameBlocks self.old self.new) }
-        ensures never_failed { result ≢ Err BuildError.Failed }
+        ensures ends { StepEnds (UseIsFull ty) func.new result }
+        ensures counts { StepCounts (◌<◌ variable) 0 func.old self.old func.new self.new result }
     {
         func.law_consistent();
         let searched = self.tables.variables.search(variable, block);
@@ -491,6 +441,11 @@ impl SSABuilder {
             → SealingIsFull (Contains (types_of func.old (pending_of
             (sealed_of self.old block)))) func.new }
         ensures ends { StepEnds ConstructionIsFull func.new result }
+        ensures never_full { pending_of (sealed_of self.old block) ≡ []
+            → result ≢ Err BuildError.Full }
+        ensures counts { block < length func.old.blocks → StepCounts
+            (λ variables. WaitsBelow variables self.old) 0 func.old self.old func.new self.new
+            result }
     {
         let waiting = self.tables.blocks.seal(block)?;
         if waiting.as_slice().is_empty() {
@@ -529,48 +484,23 @@ impl SSABuilder {
         func: &mut Function,
     ) -> Result<SideEffects, BuildError>
         requires named { Named func.old self.old }
-        ensures sealed { OnOk result (SealsOne self.old self.new block) }
-        ensures err { OnErr result (SealedStays self.old self.new
-            ⊎ SealsOne self.old self.new block) }
-        ensures local { predecessors_of self.old block ≡ []
-            → SealsLocally func.old self.old func.new self.new block result }
-        ensures keeps { (own : Own) (tables : Blocks) → SparesIfEntry func.old self.old block
-            → DescribesSoundly own func.old self.old tables
-            → OnOk result (Keeps own tables func.new self.new) }
-        ensures remembers { (x b : ℕ) → OnOk result
-            (Remembers x b func.old self.old func.new self.new) }
+        ensures makes { SealMakes block func.old self.old func.new self.new result }
+        ensures gives { SealBlockGives block func.old self.old func.new self.new result }
+        ensures keeps { SealKeeps block func.old self.old func.new self.new }
         ensures parameters { predecessors_of self.old block ≡ []
             → OnOk result (LosesWaiting func.old func.new (pending_of (sealed_of self.old block))) }
-        ensures structured { (types : VariableTypes) (own : Own)
-            → Structured types own func.old self.old []
-            → OnOk result (Structured types own func.new self.new []) }
-        ensures completes { predecessors_of self.old block ≢ []
-            → IfOk result (λ r. SealsByLookUp func.old self.old func.new self.new block
-            r.instructions_added_to_blocks.items) }
-        ensures looks_once { LooksOnce self.old → LooksOnce self.new }
-        ensures predecessors { SamePredecessors self.old self.new }
-        ensures stay { RecordsStay self.old self.new }
-        ensures no_more { block < length func.old.blocks
-            → KnowsNoMore self.old self.new (length func.old.blocks) }
-        ensures more { HasMore func.old func.new }
-        ensures constructs { OnlyConstructs func.old func.new }
-        ensures tells { IfOk result (λ r. TellsZeros func.old func.new
-            r.instructions_added_to_blocks.items) }
-        ensures tracks { NamesExist func.old self.old
-            → OnOk result (TracksMade (length func.old.values) self.old self.new) }
-        ensures within { (holds : ℕ → Bool) → HoldsBranches func.old self.old holds
-            → HoldsWaiting func.old self.old holds block
-            → IfOk result (λ r. StaysWithin holds func.old func.new
-            r.instructions_added_to_blocks.items) }
-        ensures names { NamesExist func.old self.old → NamesExist func.new self.new }
         ensures pools { NamesExist func.old self.old
             → MayPoolAll (types_of func.old (pending_of
             (sealed_of self.old block))) func.old.tables func.new.tables }
-        ensures full_waiting { NamesExist func.old self.old → result ≡ Err BuildError.Full
+        ensures full { NamesExist func.old self.old → result ≡ Err BuildError.Full
             → SealingIsFull (Contains (types_of func.old (pending_of
             (sealed_of self.old block)))) func.new }
-        ensures full { result ≡ Err BuildError.Full → ConstructionIsFull func.new }
-        ensures never_failed { result ≢ Err BuildError.Failed }
+        ensures never_full { pending_of (sealed_of self.old block) ≡ []
+            → result ≢ Err BuildError.Full }
+        ensures ends { StepEnds ConstructionIsFull func.new result }
+        ensures counts { block < length func.old.blocks → StepCounts
+            (λ variables. WaitsBelow variables self.old) 0 func.old self.old func.new self.new
+            result }
     {
         func.law_consistent();
         let told = self.seal_one_block(block, func);
@@ -585,44 +515,16 @@ impl SSABuilder {
     /// Those of [`SSABuilder::seal_block`].
     pub fn seal_all_blocks(&mut self, func: &mut Function) -> Result<SideEffects, BuildError>
         requires named { Named func.old self.old }
-        ensures sealed { OnOk result ((b : ℕ) → b < length func.old.blocks
-            → is_yes (sealed_of self.new b) ≡ true) }
-        ensures sealed_stays { (b : ℕ) → is_yes (sealed_of self.old b) ≡ true
-            → is_yes (sealed_of self.new b) ≡ true }
-        ensures others { (b : ℕ) → length func.old.blocks ≤ b
-            → is_yes (sealed_of self.new b) ≡ is_yes (sealed_of self.old b) }
-        ensures in_turn { IfOk result (λ r. SealsBelow func.old self.old
-            (length func.old.blocks) func.new self.new r.instructions_added_to_blocks.items) }
-        ensures keeps { (own : Own) (tables : Blocks) → ((b : ℕ) → b < length func.old.blocks
-            → SparesIfEntry func.old self.old b) → DescribesSoundly own func.old self.old tables
-            → OnOk result (Keeps own tables func.new self.new) }
-        ensures remembers { (x b : ℕ) → OnOk result
-            (Remembers x b func.old self.old func.new self.new) }
-        ensures looks_once { LooksOnce self.old → LooksOnce self.new }
-        ensures structured { (types : VariableTypes) (own : Own)
-            → Structured types own func.old self.old []
-            → OnOk result (Structured types own func.new self.new []) }
-        ensures predecessors { SamePredecessors self.old self.new }
-        ensures stay { RecordsStay self.old self.new }
-        ensures no_more { length self.old.blocks ≤ length func.old.blocks
-            → length self.new.blocks ≤ length func.old.blocks }
-        ensures more { HasMore func.old func.new }
-        ensures constructs { OnlyConstructs func.old func.new }
-        ensures tells { IfOk result (λ r. TellsZeros func.old func.new
-            r.instructions_added_to_blocks.items) }
-        ensures tracks { NamesExist func.old self.old
-            → OnOk result (TracksMade (length func.old.values) self.old self.new) }
-        ensures within { (holds : ℕ → Bool) → HoldsBranches func.old self.old holds → ((b : ℕ)
-            → b < length func.old.blocks → HoldsWaiting func.old self.old holds b)
-            → IfOk result (λ r. StaysWithin holds func.old func.new
-            r.instructions_added_to_blocks.items) }
-        ensures names { NamesExist func.old self.old → NamesExist func.new self.new }
+        ensures makes { SealAllMakes func.old self.old func.new self.new result }
+        ensures gives { SealAllGives func.old self.old func.new self.new result }
+        ensures keeps { SealAllKeeps func.old self.old func.new self.new }
         ensures pools { NamesExist func.old self.old
             → MayPoolWaiting func.old self.old func.new.tables }
-        ensures full_waiting { NamesExist func.old self.old → result ≡ Err BuildError.Full
+        ensures full { NamesExist func.old self.old → result ≡ Err BuildError.Full
             → SealingIsFull (WaitsWithType func.old self.old) func.new }
-        ensures full { result ≡ Err BuildError.Full → ConstructionIsFull func.new }
-        ensures never_failed { result ≢ Err BuildError.Failed }
+        ensures ends { StepEnds ConstructionIsFull func.new result }
+        ensures counts { StepCounts (λ variables. WaitsBelow variables self.old) 0 func.old self.old
+            func.new self.new result }
     {
         let mut side_effects = SideEffects::new(self.alloc);
         for number in 0..func.block_count() {

@@ -1,10 +1,11 @@
 //! What the construction knows, and the changes that a look-up makes of it.
-ghost use Rattle.std.specs.Prelude.{◌≡◌, ◌≢◌, ◌<◌, ◌+◌, ◌↔◌, ◌++◌, ◌⊎◌, [], IsTrue, length, Some, None, true, false, Contains, OnOk, OnErr, IfOk, IfSome};
+ghost use Rattle.std.specs.Prelude.{◌≡◌, ◌≢◌, ◌<◌, ◌+◌, ◌*◌, ◌↔◌, ◌++◌, ◌⊎◌, [], IsTrue, length, Some, None, true, false, Contains, OnOk, OnErr, IfOk, IfSome};
 ghost use Rattle.clif_ir.specs.Changes.{with_param};
 ghost use Rattle.clif_ssa.specs.Constructs.{OnlyConstructs, TellsMore, TellsZeros};
 ghost use Rattle.clif_records.specs.Pages.{HasNoPage, page_number};
 ghost use Rattle.clif_records.specs.Tables.{is_yes};
 ghost use Rattle.clif_ssa.specs.Ssa.{no_state, MayBind, record_of, sealed_of, predecessors_of, completed, completing_blocks, CountsEach, HasMore, Named, Records, KnowsNoMore, SameRecords, SameBlocks, SamePredecessors, SameLookups, CountsLookup};
+ghost use Rattle.clif_ssa.specs.Counted.{AddsAtMost, StepCounts, StepStops};
 ghost use Rattle.clif_ssa.specs.Moving.{LeadsOnce};
 ghost use Rattle.clif_ssa.specs.Limits.{ConstructionIsFull};
 ghost use Rattle.clif_records.specs.declared.tables.Pending.{Pending};
@@ -246,6 +247,7 @@ impl SsaTables {
         ensures lookups { SameLookups self.old self.new }
         ensures keeps { StepKeeps variable ty func.old self.old func.new self.new }
         ensures ends { StepEnds (UseIsFull ty) func.new result }
+        ensures stops { StepStops 0 func.old self.old func.new self.new result }
     {
         let param = func.append_block_param(block, ty)?;
         self.record(variable, block, param)?;
@@ -266,6 +268,7 @@ impl SsaTables {
         ensures used { UsesLocally variable ty block func.old self.old func.new self.new result }
         ensures keeps { StepKeeps variable ty func.old self.old func.new self.new }
         ensures ends { StepEnds (UseIsFull ty) func.new result }
+        ensures counts { StepCounts (◌<◌ variable) 0 func.old self.old func.new self.new result }
     {
         let param = self.new_parameter(func, variable, ty, block)?;
         let mut side_effects = SideEffects::new(alloc);
@@ -298,6 +301,7 @@ impl SsaTables {
         ensures constructs { OnlyConstructs func.old func.new }
         ensures tells { IfOk result (λ r. TellsZeros func.old func.new
             r.instructions_added_to_blocks.items) }
+        ensures at_most { AddsAtMost (2 * length waiting.now) func.old func.new }
         ensures full { result ≡ Err BuildError.Full → ConstructionIsFull func.new }
         ensures pools { ((p : Pending) → Contains waiting.now p → p.param < length func.old.values)
             → MayPoolAll (types_of func.old waiting.now) func.old.tables func.new.tables }
@@ -333,6 +337,7 @@ impl SsaTables {
         ensures tells { OnOk result (TellsMore func.old func.new look_up.old.zeros
             look_up.new.zeros) }
         ensures ends { StepEnds (UseIsFull ty) func.new result }
+        ensures stops { StepStops 0 func.old self.old func.new self.new result }
     {
         let param = self.new_parameter(func, variable, ty, block)?;
         if self.blocks.is_sealed(block) {
@@ -364,6 +369,7 @@ impl SsaTables {
         ensures tells { OnOk result (TellsMore func.old func.new look_up.old.zeros
             look_up.new.zeros) }
         ensures ends { StepEnds (UseIsFull ty) func.new result }
+        ensures stops { StepStops 0 func.old self.old func.new self.new result }
     {
         if let Some(value) = recorded {
             look_up.push_result(value)?;

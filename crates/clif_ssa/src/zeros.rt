@@ -4,6 +4,7 @@ ghost use Rattle.std.specs.Option.{option_to_list};
 ghost use Rattle.clif_ir.specs.Body.{resolved, value_at};
 ghost use Rattle.clif_ir.specs.Reading.{param_home};
 ghost use Rattle.clif_ssa.specs.Constructs.{OnlyConstructs, TellsZeros};
+ghost use Rattle.clif_ssa.specs.Counted.{AddsAtMost};
 ghost use Rattle.clif_ssa.specs.Limits.{IsFull};
 ghost use Rattle.clif_ssa.specs.Pools.{LacksZero, MayPool, UseIsFull};
 ghost use Rattle.clif_ssa.specs.Ssa.{with_steps, with_zero, zero_value, zeroed_in, HasMore};
@@ -35,6 +36,7 @@ pub(crate) fn replace_by_zero(
     ensures constructs { OnlyConstructs func.old func.new }
     ensures tells { OnOk result (TellsZeros func.old func.new (option_to_list
         (param_home func.old param))) }
+    ensures at_most { AddsAtMost 2 func.old func.new }
     ensures pools { MayPool (value_at func.old param).ty func.old.tables func.new.tables }
     ensures full { result ≡ Err BuildError.Full → UseIsFull (value_at func.old param).ty func.new }
     ensures never_failed { result ≢ Err BuildError.Failed }
@@ -64,6 +66,7 @@ pub(crate) fn become_zero(func: &mut Function, param: Value) -> Result<Ending, B
     ensures more { HasMore func.old func.new }
     ensures constructs { OnlyConstructs func.old func.new }
     ensures tells { IfOk result (λ e. TellsZeros func.old func.new (option_to_list e.zero)) }
+    ensures at_most { AddsAtMost 2 func.old func.new }
     ensures pools { MayPool (value_at func.old param).ty func.old.tables func.new.tables }
     ensures full { result ≡ Err BuildError.Full → UseIsFull (value_at func.old param).ty func.new }
     ensures never_failed { result ≢ Err BuildError.Failed }

@@ -4,7 +4,7 @@ use Rattle.clif_ranges.specs.declared.search.Test.TheVariants as test
 use Rattle.clif_ranges.specs.Search.{AreInOrder, AreTestsOf, FindsCases, FindsEachKey}
 use Rattle.clif_ranges.specs.declared.search.Node.{Node}
 use Rattle.clif_ranges.proofs.Keys.{has_block}
-use Rattle.clif_ranges.proofs.Searching.{nothing_tested, nothing_to_find}
+use Rattle.clif_ranges.proofs.Searching.{added_few, nothing_few, nothing_tested, nothing_to_find}
 use Rattle.clif_ranges.proofs.search.search_tree.Goals as goal
 
 -- what finds the ranges' keys finds those of their cases
@@ -44,6 +44,16 @@ pub returns-then-is_empty-clause-tests : goal.returns-then-is_empty-clause-tests
 returns-then-is_empty-clause-tests c =
     nothing_tested c.args.ranges.now c.push.new.self.items (search rules)
     (c.in_ok-push.ensures.items ∙ ap (λ nodes. nodes ++ record { number = 0; test = test.Nothing } ∷ []) c.new-nodes.ensures.items)
+
+pub returns-then-is_empty-clause-few : goal.returns-then-is_empty-clause-few
+returns-then-is_empty-clause-few c =
+    nothing_few c.args.ranges.now c.push.new.self.items
+    (c.in_ok-push.ensures.items ∙ ap (λ nodes. nodes ++ record { number = 0; test = test.Nothing } ∷ []) c.new-nodes.ensures.items)
+
+pub returns-clause-few : goal.returns-clause-few
+returns-clause-few c =
+    let adds = c.in_ok-add_nodes.ensures.ok in
+    added_few c.args.ranges.now c.add_nodes.new.nodes.items adds.added (adds.is ∙ ap (λ nodes. nodes ++ adds.added) c.new-nodes.ensures.items) adds.small
 
 pub returns-clause-tests : goal.returns-clause-tests
 returns-clause-tests c =

@@ -4,6 +4,7 @@ use Rattle.clif_ssa.proofs.Alike.{zero_ending_exists}
 use Rattle.clif_ssa.proofs.Bodies.{param_exists}
 use Rattle.clif_ssa.proofs.Constructing.{constructs_same}
 use Rattle.clif_ssa.proofs.Constructed.{alias_made, param_is}
+use Rattle.clif_ssa.proofs.Counted.{adds_alias, adds_more, adds_same}
 use Rattle.clif_ssa.proofs.Zeroing.{alias_count_same}
 use Rattle.clif_ssa.proofs.ending.end_look_up.Goals as goal
 
@@ -41,6 +42,23 @@ pub returns-in-Nothing-clause-exists : goal.returns-in-Nothing-clause-exists
 returns-in-Nothing-clause-exists c =
     zero_ending_exists c.args.func.now c.become_zero.new.func c.args.param c.args.home c.become_zero.result c.requires.is_parameter
     c.become_zero.ensures.zero c.become_zero.ensures.answer
+
+-- HOW MUCH IS NEW -------------------------------------------------------------------------------------------------
+
+pub returns-in_err-change_param_to_alias-in-One-clause-at_most : goal.returns-in_err-change_param_to_alias-in-One-clause-at_most
+returns-in_err-change_param_to_alias-in-One-clause-at_most c =
+    adds_more 0 2 _ _ (omega arith) (adds_same c.args.func.now c.change_param_to_alias.new.self c.in_err-change_param_to_alias-in-One.ensures.err)
+
+pub returns-in_ok-change_param_to_alias-in-One-clause-at_most : goal.returns-in_ok-change_param_to_alias-in-One-clause-at_most
+returns-in_ok-change_param_to_alias-in-One-clause-at_most c =
+    adds_more 0 2 _ _ (omega arith)
+    (adds_alias c.args.func.now c.change_param_to_alias.new.self c.args.param c.in-One.value c.in_ok-change_param_to_alias-in-One.ensures.ok)
+
+pub returns-in_err-pass_arguments-in-Several-clause-at_most : goal.returns-in_err-pass_arguments-in-Several-clause-at_most
+returns-in_err-pass_arguments-in-Several-clause-at_most c = adds_more 0 2 _ _ (omega arith) c.pass_arguments.ensures.at_most
+
+pub returns-in_ok-pass_arguments-in-Several-clause-at_most : goal.returns-in_ok-pass_arguments-in-Several-clause-at_most
+returns-in_ok-pass_arguments-in-Several-clause-at_most c = adds_more 0 2 _ _ (omega arith) c.pass_arguments.ensures.at_most
 
 -- WHICH CONSTANTS -------------------------------------------------------------------------------------------------
 

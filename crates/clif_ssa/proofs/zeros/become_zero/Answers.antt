@@ -1,10 +1,11 @@
-use Rattle.std.proofs.Common.{◌∷◌, [], ap, inl, refl, rules, subst}
+use Rattle.std.proofs.Common.{◌∷◌, [], ap, arith, inl, refl, rules, subst}
 use Rattle.std.proofs.lemmas.Result.{err_from_is_err_and}
 use Rattle.clif_ir.specs.Body.{Body}
 use Rattle.clif_ssa.specs.Pools.{MayPool, UseIsFull}
 use Rattle.clif_ssa.specs.Constructs.{OnlyConstructs}
 use Rattle.clif_ssa.proofs.Constructing.{constructs_none, constructs_same, constructs_then, tells_then}
 use Rattle.clif_ssa.proofs.Constructed.{alias_made, alias_told, param_is, zero_param}
+use Rattle.clif_ssa.proofs.Counted.{adds_alias, adds_more, adds_same, adds_some, adds_then, adds_zero}
 use Rattle.clif_ssa.proofs.Pooling.{pool_same}
 use Rattle.clif_ssa.proofs.PuttingSteps.{full_before}
 use Rattle.clif_ssa.proofs.zeros.become_zero.Goals as goal
@@ -38,6 +39,26 @@ pub returns-clause-tells : goal.returns-clause-tells
 returns-clause-tells c =
     tells_then c.args.func.now c.put_zero.new.func c.change_param_to_alias.new.self (c.in-Some.block ∷ []) [] (made c) c.in_ok-value.ensures.tells
     (alias_told c.put_zero.new.func c.change_param_to_alias.new.self c.args.param c.in_ok-value.value c.in_ok-change_param_to_alias.ensures.ok)
+
+-- HOW MUCH IS NEW -------------------------------------------------------------------------------------------------
+
+pub returns-in_default-clause-at_most : goal.returns-in_default-clause-at_most
+returns-in_default-clause-at_most c = adds_more 0 2 c.args.func.now c.args.func.now (omega arith) (adds_same c.args.func.now c.args.func.now refl)
+
+pub returns-in_err-value-clause-at_most : goal.returns-in_err-value-clause-at_most
+returns-in_err-value-clause-at_most c = adds_some c.args.func.now c.put_zero.new.func c.in-Some.block c.value_type.result c.in_err-value.ensures.err
+
+pub returns-in_err-change_param_to_alias-clause-at_most : goal.returns-in_err-change_param_to_alias-clause-at_most
+returns-in_err-change_param_to_alias-clause-at_most c =
+    adds_then 2 0 c.args.func.now c.put_zero.new.func c.change_param_to_alias.new.self
+    (adds_zero c.args.func.now c.put_zero.new.func c.in-Some.block c.value_type.result c.in_ok-value.ensures.ok)
+    (adds_same c.put_zero.new.func c.change_param_to_alias.new.self c.in_err-change_param_to_alias.ensures.err)
+
+pub returns-clause-at_most : goal.returns-clause-at_most
+returns-clause-at_most c =
+    adds_then 2 0 c.args.func.now c.put_zero.new.func c.change_param_to_alias.new.self
+    (adds_zero c.args.func.now c.put_zero.new.func c.in-Some.block c.value_type.result c.in_ok-value.ensures.ok)
+    (adds_alias c.put_zero.new.func c.change_param_to_alias.new.self c.args.param c.in_ok-value.value c.in_ok-change_param_to_alias.ensures.ok)
 
 -- WHICH CONSTANTS -------------------------------------------------------------------------------------------------
 

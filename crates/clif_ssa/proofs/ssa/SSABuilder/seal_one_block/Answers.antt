@@ -8,6 +8,8 @@ use Rattle.clif_ssa.specs.Pools.{types_of}
 use Rattle.clif_ssa.specs.Running.{stage, CompletesAll, ToComplete}
 use Rattle.clif_ssa.specs.Steps.{StepLeaves}
 use Rattle.clif_ssa.specs.Structure.{LooksOnce}
+use Rattle.clif_ssa.proofs.CountedLooks.{nothing_counts, sealing_counts, zeros_count}
+use Rattle.clif_ssa.proofs.CountedSteps.{counts_any, counts_as, counts_made, counts_memory}
 use Rattle.clif_ssa.proofs.SealSteps.{failed_makes, local_keeps, local_makes, looked_keeps, looked_makes, nothing_keeps, nothing_makes, refused_keeps, refused_makes}
 use Rattle.clif_ssa.proofs.Pooling.{sealing_full}
 use Rattle.clif_ssa.proofs.SealPools.{block_full, block_pools, pools_local, pools_nothing, pools_refused, pools_sealed, waiting_exist}
@@ -194,3 +196,41 @@ returns-in_err-complete_all-clause-full_waiting c =
     (λ named is.
     block_full c.args.func.now c.complete_all.new.func c.self.inside.tables c.args.block c.as_slice-2.result.now same
     ((ends_as c.complete_all.new.func c.in_err-complete_all.field-0.0 c.in_err-complete_all.ensures.ends).full is))
+
+-- HOW MUCH IT MAKES -----------------------------------------------------------------------------------------------
+
+pub returns-in_err-waiting-clause-counts : goal.returns-in_err-waiting-clause-counts
+returns-in_err-waiting-clause-counts c = λ exists.
+    let p = err_from_is_err_and c.from_residual.result c.from_residual.ensures.1 in
+    rw (p.1, p.2) (counts_memory c.in_err-waiting.field-0.0 c.in_err-waiting.ensures.only_memory)
+
+pub returns-then-is_empty-clause-counts : goal.returns-then-is_empty-clause-counts
+returns-then-is_empty-clause-counts c = λ exists.
+    let same : c.as_slice.result.now ≡ pending_of (sealed_of c.self.inside.tables c.args.block) = first_of (search rules, grind (arith, common_steps)) in
+    rw (← c.self.view_is)
+    (sealing_counts c.args.block c.args.func.now c.args.func.now c.self.inside.tables (state_of c.self-inside.inside.0.1.0.variables c.seal.new.self c.self-inside.inside.0.1.0.tracking) (state_of c.self-inside.inside.0.1.0.variables c.seal.new.self c.self-inside.inside.0.1.0.tracking) c.as_slice.result.now exists
+    (seals_in _ _ _ _ (tables_are c.self-inside.view_is) c.seal.new.self c.args.block c.in_ok-waiting.ensures.ok) (records_are _ _ _ _ (tables_are c.self-inside.view_is)) same (nothing_counts c.as_slice.result.now c.args.func.now _))
+
+pub returns-then-is_empty-2-clause-counts : goal.returns-then-is_empty-2-clause-counts
+returns-then-is_empty-2-clause-counts c = λ exists.
+    let same : c.as_slice-then-is_empty-2.result.now ≡ pending_of (sealed_of c.self.inside.tables c.args.block) = first_of (search rules, grind (arith, common_steps)) in
+    rw (← c.self.view_is)
+    (sealing_counts c.args.block c.args.func.now c.complete_locally.new.func c.self.inside.tables (state_of c.self-inside.inside.0.1.0.variables c.seal.new.self c.self-inside.inside.0.1.0.tracking) c.complete_locally.new.self c.as_slice-then-is_empty-2.result.now exists
+    (seals_in _ _ _ _ (tables_are c.self-inside.view_is) c.seal.new.self c.args.block c.in_ok-waiting.ensures.ok) (records_are _ _ _ _ (tables_are c.self-inside.view_is)) same
+    (zeros_count c.as_slice-then-is_empty-2.result.now c.args.func.now c.complete_locally.new.func _ c.complete_locally.new.self c.complete_locally.ensures.at_most c.complete_locally.ensures.records
+    c.complete_locally.ensures.blocks))
+
+pub returns-in_err-complete_all-clause-counts : goal.returns-in_err-complete_all-clause-counts
+returns-in_err-complete_all-clause-counts c = λ exists.
+    let same : c.as_slice-2.result.now ≡ pending_of (sealed_of c.self.inside.tables c.args.block) = first_of (search rules, grind (arith, common_steps)) in
+    let p = err_from_is_err_and c.from_residual-in_err-complete_all.result c.from_residual-in_err-complete_all.ensures.1 in
+    rw (p.1, p.2, ← c.self.view_is)
+    (counts_as (sealing_counts c.args.block c.args.func.now c.complete_all.new.func c.self.inside.tables (state_of c.self-inside.inside.0.1.0.variables c.seal.new.self c.self-inside.inside.0.1.0.tracking) c.complete_all.new.self c.as_slice-2.result.now exists
+    (seals_in _ _ _ _ (tables_are c.self-inside.view_is) c.seal.new.self c.args.block c.in_ok-waiting.ensures.ok) (records_are _ _ _ _ (tables_are c.self-inside.view_is)) same c.in_err-complete_all.ensures.counts))
+
+pub returns-clause-counts : goal.returns-clause-counts
+returns-clause-counts c = λ exists.
+    let same : c.as_slice-2.result.now ≡ pending_of (sealed_of c.self.inside.tables c.args.block) = first_of (search rules, grind (arith, common_steps)) in
+    rw (← c.self.view_is)
+    (counts_any (counts_made (sealing_counts c.args.block c.args.func.now c.complete_all.new.func c.self.inside.tables (state_of c.self-inside.inside.0.1.0.variables c.seal.new.self c.self-inside.inside.0.1.0.tracking) c.complete_all.new.self c.as_slice-2.result.now exists
+    (seals_in _ _ _ _ (tables_are c.self-inside.view_is) c.seal.new.self c.args.block c.in_ok-waiting.ensures.ok) (records_are _ _ _ _ (tables_are c.self-inside.view_is)) same c.in_ok-complete_all.ensures.counts)))

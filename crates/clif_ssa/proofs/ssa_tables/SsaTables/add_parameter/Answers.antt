@@ -5,6 +5,7 @@ use Rattle.clif_records.specs.Tables.{is_yes, sealed_at}
 use Rattle.clif_ssa.proofs.LocalSteps.{param_tells}
 use Rattle.clif_ssa.proofs.Opened.{blocks_are, no_more_known, predecessors_same, records_are, sealed_same, tracking_is, waits_in}
 use Rattle.clif_ssa.proofs.Steps.{ends_as, ends_memory, ends_ok, got_begun, got_waiting, keeps_begun, keeps_not_waiting, keeps_waits}
+use Rattle.clif_ssa.proofs.CountedSteps.{stops_as, stops_memory}
 use Rattle.clif_ssa.proofs.ssa_tables.SsaTables.add_parameter.Goals as goal
 
 -- NO PARAMETER IS MADE --------------------------------------------------------------------------------------------
@@ -127,3 +128,25 @@ returns-clause-tells c =
 pub returns-clause-ends : goal.returns-clause-ends
 returns-clause-ends c =
     ends_ok c.new_parameter.new.func _
+
+-- WHERE IT STOPS --------------------------------------------------------------------------------------------------
+
+pub returns-in_err-param-clause-stops : goal.returns-in_err-param-clause-stops
+returns-in_err-param-clause-stops c =
+    let p = err_from_is_err_and c.from_residual.result c.from_residual.ensures.1 in
+    rw (p.1, p.2) (stops_as c.in_err-param.field-0.0 c.in_err-param.ensures.stops)
+
+pub returns-in_err-begin_look_up-clause-stops : goal.returns-in_err-begin_look_up-clause-stops
+returns-in_err-begin_look_up-clause-stops c =
+    let p = err_from_is_err_and c.from_residual-in_err-begin_look_up.result c.from_residual-in_err-begin_look_up.ensures.1 in
+    rw (p.1, p.2) (stops_memory c.in_err-begin_look_up.field-0.0 c.in_err-begin_look_up.ensures.only_memory)
+
+pub returns-in_err-push_result-clause-stops : goal.returns-in_err-push_result-clause-stops
+returns-in_err-push_result-clause-stops c =
+    let p = err_from_is_err_and c.from_residual-in_err-push_result.result c.from_residual-in_err-push_result.ensures.1 in
+    rw (p.1, p.2) (stops_memory c.in_err-push_result.field-0.0 c.in_err-push_result.ensures.only_memory)
+
+pub returns-in_err-wait-clause-stops : goal.returns-in_err-wait-clause-stops
+returns-in_err-wait-clause-stops c =
+    let p = err_from_is_err_and c.from_residual-in_err-wait.result c.from_residual-in_err-wait.ensures.1 in
+    rw (p.1, p.2) (stops_memory c.in_err-wait.field-0.0 c.in_err-wait.ensures.only_memory)

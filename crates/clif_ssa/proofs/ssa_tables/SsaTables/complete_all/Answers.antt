@@ -3,6 +3,8 @@ use Rattle.std.specs.Prelude.{Contains, Err}
 use Rattle.clif_records.specs.declared.tables.Pending.{Pending}
 use Rattle.clif_ssa.specs.Running.{stage}
 use Rattle.clif_ssa.proofs.CountedOnce.{once_same}
+use Rattle.clif_ssa.proofs.CountedLooks.{item_counts, item_stops}
+use Rattle.clif_ssa.proofs.CountedSteps.{counts_any, counts_made, counts_none, counts_room}
 use Rattle.clif_ssa.proofs.Constructing.{tells_more_none, tells_more_then}
 use Rattle.clif_ssa.proofs.Waited.{drop-item, all-further}
 use Rattle.clif_ssa.proofs.Pooling.{pools_none}
@@ -28,6 +30,7 @@ loop-pending-init c = record {
   leaves = leaves_none c.args.func.now c.args.self.now;
   tells = tells_more_none c.args.func.now c.args.look_up.now.zeros;
   pools = λ h u rest. rest;
+  counts = counts_none (length c.args.waiting.now) c.args.func.now c.args.self.now;
   once = λ before. before;
 }
 
@@ -41,6 +44,11 @@ loop-pending-preserved c =
           (stage c.loop-pending.func c.loop-pending.self c.loop-pending.look_up) (stage c.complete_parameter.new.func c.complete_parameter.new.self c.complete_parameter.new.look_up) n
           (drop-item c.args.waiting.now c.loop-pending.pending-index c.pending-item.result inside c.pending-item.is) c.in_ok-complete_parameter.ensures.completes rest);
       idle = c.in_ok-complete_parameter.ensures.idle;
+      counts =
+          item_counts c.args.waiting.now c.pending-item.result c.loop-pending.pending-index (length c.args.waiting.now) c.args.func.now c.loop-pending.func c.complete_parameter.new.func
+          c.args.self.now c.loop-pending.self c.complete_parameter.new.self
+          (drop-item c.args.waiting.now c.loop-pending.pending-index c.pending-item.result inside c.pending-item.is) (c.loop-pending.pending-index, inside, sym c.pending-item.is)
+          c.loop-pending.invariant.leaves.more.blocks c.loop-pending.invariant.counts (counts_made c.in_ok-complete_parameter.ensures.counts);
       named = c.complete_parameter.ensures.leaves.names c.loop-pending.invariant.named;
       leaves = leaves_then c.args.func.now c.args.self.now c.loop-pending.func c.loop-pending.self c.complete_parameter.new.func c.complete_parameter.new.self c.loop-pending.invariant.leaves c.complete_parameter.ensures.leaves;
       pools = λ h u rest.
@@ -124,3 +132,18 @@ returns-in_err-complete_parameter-clause-pools c =
 
 pub returns-clause-pools : goal.returns-clause-pools
 returns-clause-pools c = c.loop-pending.invariant.pools c.loop-pending.func c.loop-pending.self (pools_none _ c.loop-pending.func c.loop-pending.self)
+
+-- HOW MUCH IT MAKES -----------------------------------------------------------------------------------------------
+
+pub returns-in_err-complete_parameter-clause-counts : goal.returns-in_err-complete_parameter-clause-counts
+returns-in_err-complete_parameter-clause-counts c =
+    let inside : c.loop-pending.pending-index < length c.args.waiting.now = search rules in
+    let p = err_from_is_err_and c.from_residual.result c.from_residual.ensures.1 in
+    rw (p.1, p.2)
+    (item_stops c.args.waiting.now c.pending-item.result c.loop-pending.pending-index (length c.args.waiting.now) c.args.func.now c.loop-pending.func c.complete_parameter.new.func
+    c.args.self.now c.loop-pending.self c.complete_parameter.new.self c.in_err-complete_parameter.field-0.0
+    (drop-item c.args.waiting.now c.loop-pending.pending-index c.pending-item.result inside c.pending-item.is) (c.loop-pending.pending-index, inside, sym c.pending-item.is)
+    c.loop-pending.invariant.leaves.more.blocks c.loop-pending.invariant.counts c.in_err-complete_parameter.ensures.counts)
+
+pub returns-clause-counts : goal.returns-clause-counts
+returns-clause-counts c = counts_any (counts_room _ 0 (omega arith) c.loop-pending.invariant.counts)

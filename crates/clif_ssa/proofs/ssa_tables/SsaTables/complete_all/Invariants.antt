@@ -1,7 +1,8 @@
-use Rattle.std.proofs.Common.{◌≡◌, [], drop}
+use Rattle.std.proofs.Common.{◌≡◌, [], drop, length}
 use Rattle.clif_ir.specs.Body.{Body}
 use Rattle.clif_ssa.specs.Pools.{types_of}
 use Rattle.clif_ssa.specs.Constructs.{TellsMore}
+use Rattle.clif_ssa.specs.Counted.{AreBelow, CountsFor}
 use Rattle.clif_ssa.specs.Ssa.{SsaState, NamesExist}
 use Rattle.clif_ssa.specs.Steps.{StepLeaves, StepPools}
 use Rattle.clif_ssa.specs.LookUp.{Stage}
@@ -19,4 +20,5 @@ invariant-loop-pending l = record {
       → StepPools (types_of l.initial.func l.waiting) l.initial.func l.initial.self h u;
   once : ToComplete l.initial.self l.block l.waiting → ToComplete l.self l.block (drop l.pending-index l.waiting);
   tells : TellsMore l.initial.func l.func l.initial.look_up.zeros l.look_up.zeros;
+  counts : CountsFor (λ variables. AreBelow variables l.waiting) (length l.waiting) l.initial.func l.initial.self (length (drop l.pending-index l.waiting)) l.func l.self;
 }

@@ -1,5 +1,6 @@
-use Rattle.std.proofs.Common.{rules, ◌<◌, ◌+◌, ◌∙◌, ◌∷◌, length, drop, arith, refl, sym, inl, inr}
+use Rattle.std.proofs.Common.{rules, ◌<◌, ◌≤◌, ◌*◌, ◌+◌, ◌∙◌, ◌∷◌, length, drop, arith, refl, sym, inl, inr}
 use Rattle.std.proofs.lemmas.Grind.{common_steps}
+use Rattle.clif_ssa.proofs.Counted.{adds_more, adds_same, adds_then}
 use Rattle.clif_ssa.proofs.CountedOnce.{once_same, once_completes}
 use Rattle.clif_ssa.proofs.Constructing.{constructs_none, constructs_then, tells_all, tells_more_none, tells_more_then}
 use Rattle.std.proofs.lemmas.Result.{err_from_is_err_and}
@@ -21,6 +22,7 @@ loop-pending-init c = record {
   tracking = refl;
   blocks = refl;
   more = has_more c.args.func.now;
+  at_most = adds_same c.args.func.now c.args.func.now refl;
   constructs = constructs_none c.args.func.now;
   tells = tells_more_none c.args.func.now c.new-side_effects.result.instructions_added_to_blocks.items;
   pools = λ exist t rest. rest;
@@ -42,6 +44,7 @@ loop-pending-preserved c =
       tracking = first_of (search rules, grind (arith, common_steps));
       blocks = first_of (search rules, grind (arith, common_steps));
       more = first_of (search rules, grind (arith, common_steps));
+      at_most = adds_more (2 * c.loop-pending.pending-index + 2) _ _ _ (omega arith) (adds_then _ 2 _ _ _ c.loop-pending.invariant.at_most c.replace_by_zero.ensures.at_most);
       constructs = constructs_then c.args.func.now c.loop-pending.func c.replace_by_zero.new.func c.loop-pending.invariant.constructs c.replace_by_zero.ensures.constructs;
       pools = λ exist t rest.
           c.loop-pending.invariant.pools exist t
@@ -141,3 +144,21 @@ returns-in_err-replace_by_zero-clause-full_waiting c = λ exist is.
     (same_type c.args.func.now c.loop-pending.func c.args.waiting.now c.pending-item.result c.loop-pending.invariant.constructs exist
     (c.loop-pending.pending-index, inside, sym c.pending-item.is))
     (c.in_err-replace_by_zero.ensures.full (full_before c.from_residual-in_err-replace_by_zero.result c.in_err-replace_by_zero.field-0.0 p.0 is p.1 p.2))
+
+-- HOW MUCH IT MAKES -----------------------------------------------------------------------------------------------
+
+pub returns-in_err-count_lookup-clause-at_most : goal.returns-in_err-count_lookup-clause-at_most
+returns-in_err-count_lookup-clause-at_most c =
+    let inside : c.loop-pending.pending-index < length c.args.waiting.now = search rules in
+    adds_more (2 * c.loop-pending.pending-index) _ _ _ (omega (arith, inside)) c.loop-pending.invariant.at_most
+
+pub returns-in_err-replace_by_zero-clause-at_most : goal.returns-in_err-replace_by_zero-clause-at_most
+returns-in_err-replace_by_zero-clause-at_most c =
+    let inside : c.loop-pending.pending-index < length c.args.waiting.now = search rules in
+    adds_more (2 * c.loop-pending.pending-index + 2) _ _ _ (omega (arith, inside))
+    (adds_then _ 2 _ _ _ c.loop-pending.invariant.at_most c.replace_by_zero.ensures.at_most)
+
+pub returns-clause-at_most : goal.returns-clause-at_most
+returns-clause-at_most c =
+    let most : c.loop-pending.pending-index ≤ length c.args.waiting.now = first_of (search rules, grind (arith, common_steps)) in
+    adds_more (2 * c.loop-pending.pending-index) _ _ _ (omega (arith, most)) c.loop-pending.invariant.at_most

@@ -1,9 +1,10 @@
-use Rattle.std.proofs.Common.{◌≡◌, ◌++◌, ◌<◌, ℕ, drop, length}
+use Rattle.std.proofs.Common.{◌≡◌, ◌++◌, ◌*◌, ◌<◌, ℕ, drop, length}
 use Rattle.std.specs.Prelude.{Contains}
 use Rattle.clif_records.specs.declared.tables.Pending.{Pending}
 use Rattle.clif_tables.specs.Lists.{TableLists}
 use Rattle.clif_ssa.specs.contracts.ssa_tables.SsaTables.{the_view}
 use Rattle.clif_ssa.specs.Pools.{types_of, MayPoolAll}
+use Rattle.clif_ssa.specs.Counted.{AddsAtMost}
 use Rattle.clif_ssa.specs.Constructs.{OnlyConstructs, TellsMore}
 use Rattle.clif_ssa.specs.Ssa.{completed, completing_blocks, counted_for, lookups_of, HasMore, SameRecords}
 use Rattle.clif_ssa.specs.Running.{ToComplete}
@@ -20,6 +21,7 @@ invariant-loop-pending l = record {
   tracking : l.self-inside.tracking ≡ l.initial.self-inside.tracking;
   blocks : l.self-inside.blocks ≡ l.initial.self-inside.blocks;
   more : HasMore l.initial.func l.func;
+  at_most : AddsAtMost (2 * l.pending-index) l.initial.func l.func;
   once : ToComplete (the_view l.initial.self-inside) l.block l.waiting → ToComplete (the_view l.self-inside) l.block (drop l.pending-index l.waiting);
   pools : ((p : Pending) → Contains l.waiting p → p.param < length l.initial.func.values) → (t : TableLists)
       → MayPoolAll (types_of l.initial.func (drop l.pending-index l.waiting)) l.func.tables t → MayPoolAll (types_of l.initial.func l.waiting) l.initial.func.tables t;

@@ -6,6 +6,8 @@ use Rattle.clif_ssa.specs.Steps.{StepPools}
 use Rattle.clif_records.specs.Tables.{sealed_at, predecessors_at}
 use Rattle.clif_ssa.proofs.Constructing.{constructs_none}
 use Rattle.clif_ssa.proofs.CountedOnce.{once_completes, once_follows}
+use Rattle.clif_ssa.proofs.CountedLooks.{completion_begins}
+use Rattle.clif_ssa.proofs.CountedSteps.{counts_any, counts_as, counts_made, counts_memory, counts_next, counts_then}
 use Rattle.clif_ssa.proofs.Naming.{has_more}
 use Rattle.clif_ssa.proofs.Local.{named-same}
 use Rattle.clif_ssa.proofs.Waited.{begun-fits, parameter-completed}
@@ -147,3 +149,26 @@ returns-clause-pools c =
     (constructs_none c.args.func.now) (λ b. ap (λ blocks. sealed_at blocks b) c.begin_look_up.ensures.blocks))
     (subst (λ ty. StepPools (ty ∷ []) c.args.func.now c.begin_look_up.new.self c.make_calls.new.func c.make_calls.new.self) c.value_type-ty.ensures
     c.make_calls.ensures.keeps.pools))
+
+-- HOW MUCH IT MAKES -----------------------------------------------------------------------------------------------
+
+pub returns-in_err-begin_look_up-clause-counts : goal.returns-in_err-begin_look_up-clause-counts
+returns-in_err-begin_look_up-clause-counts c =
+    let p = err_from_is_err_and c.from_residual.result c.from_residual.ensures.1 in
+    rw (p.1, p.2) (counts_memory c.in_err-begin_look_up.field-0.0 c.in_err-begin_look_up.ensures.only_memory)
+
+pub returns-in_err-_value-clause-counts : goal.returns-in_err-_value-clause-counts
+returns-in_err-_value-clause-counts c =
+    let p = err_from_is_err_and c.from_residual-in_err-_value.result c.from_residual-in_err-_value.ensures.1 in
+    rw (p.1, p.2)
+    (counts_as (counts_next (λ variables fits waits. fits) refl
+    (completion_begins c.args.waiting.variable c.args.waiting.param c.args.block c.args.func.now c.args.self.now c.begin_look_up.new.self c.args.look_up.now c.begin_look_up.new.look_up
+    c.begin_look_up.ensures.records (λ b. ap (λ blocks. sealed_at blocks b) c.begin_look_up.ensures.blocks) c.requires.idle.0 c.in_ok-begin_look_up.ensures.look_up)
+    c.in_err-_value.ensures.counts))
+
+pub returns-clause-counts : goal.returns-clause-counts
+returns-clause-counts c =
+    counts_any (counts_then (λ variables fits waits. fits) refl
+    (completion_begins c.args.waiting.variable c.args.waiting.param c.args.block c.args.func.now c.args.self.now c.begin_look_up.new.self c.args.look_up.now c.begin_look_up.new.look_up
+    c.begin_look_up.ensures.records (λ b. ap (λ blocks. sealed_at blocks b) c.begin_look_up.ensures.blocks) c.requires.idle.0 c.in_ok-begin_look_up.ensures.look_up)
+    (counts_made c.in_ok-_value.ensures.counts))

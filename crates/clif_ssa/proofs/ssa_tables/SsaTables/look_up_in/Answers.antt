@@ -5,6 +5,7 @@ use Rattle.clif_ssa.proofs.LookSteps.{ends_copied, keeps_looked, looked_copied}
 use Rattle.clif_ssa.proofs.Opened.{blocks_are, copied_none_lost, copied_others, copied_recorded, copies_to, lookups_same, state_of, tracking_is}
 use Rattle.clif_ssa.proofs.Steps.{ends_as, ends_memory, keeps_none}
 use Rattle.clif_ssa.proofs.Waited.{on_any}
+use Rattle.clif_ssa.proofs.CountedSteps.{stops_as, stops_memory, stops_only_memory}
 use Rattle.clif_ssa.proofs.ssa_tables.SsaTables.look_up_in.Goals as goal
 
 pub returns-in_err-reached-clause-looks : goal.returns-in_err-reached-clause-looks
@@ -65,3 +66,18 @@ returns-clause-tells c =
 pub returns-clause-ends : goal.returns-clause-ends
 returns-clause-ends c =
     (ends_copied c.record_or_parameter.new.func c.set_each.result c.set_each.ensures.only_memory)
+
+-- WHERE IT STOPS --------------------------------------------------------------------------------------------------
+
+pub returns-in_err-reached-clause-stops : goal.returns-in_err-reached-clause-stops
+returns-in_err-reached-clause-stops c =
+    let p = err_from_is_err_and c.from_residual.result c.from_residual.ensures.1 in
+    rw (p.1, p.2) (stops_memory c.in_err-reached.field-0.0 c.in_err-reached.ensures.only_memory)
+
+pub returns-in_err-value-clause-stops : goal.returns-in_err-value-clause-stops
+returns-in_err-value-clause-stops c =
+    let p = err_from_is_err_and c.from_residual-in_err-value.result c.from_residual-in_err-value.ensures.1 in
+    rw (p.1, p.2) (stops_as c.in_err-value.field-0.0 c.in_err-value.ensures.stops)
+
+pub returns-clause-stops : goal.returns-clause-stops
+returns-clause-stops c = stops_only_memory 0 _ _ _ _ c.set_each.result c.set_each.ensures.only_memory

@@ -1,12 +1,14 @@
-use Rattle.std.proofs.Common.{rules, ◌≡◌, ◌<◌, ◌∷◌, ◌∙◌, ap, sym, subst, length, arith, refl, inl}
+use Rattle.std.proofs.Common.{rules, ◌≡◌, ◌<◌, ◌*◌, [], ◌∷◌, ◌∙◌, ap, sym, subst, length, arith, refl, inl}
 use Rattle.std.specs.Prelude.{EachIndex, slice_index}
 use Rattle.clif_ir.specs.Body.{inst_at}
 use Rattle.clif_records.specs.declared.look_up.Call.TheVariants.{UseVar, FinishPredecessorsLookup}
+use Rattle.clif_ssa.specs.Counted.{finishes, StepStops}
 use Rattle.clif_ssa.specs.Pools.{MayPool, UseIsFull}
 use Rattle.clif_ssa.specs.Ssa.{predecessors_of}
 use Rattle.clif_ssa.specs.LookUp.{LooksUp}
 use Rattle.clif_ssa.specs.Running.{stage, CallExists, CallsFit, with_call}
 use Rattle.clif_ssa.proofs.Calling.{look-fits, finish-fits, popped-look, next_typed, both_ok, on_ok', same_block, leading-each}
+use Rattle.clif_ssa.proofs.CountedSteps.{stops_grown, stops_more}
 use Rattle.clif_ssa.proofs.Pooling.{types_kept}
 use Rattle.clif_ssa.proofs.Steps.{ends_zeros, keeps_grown}
 use Rattle.clif_ssa.proofs.ssa_tables.SsaTables.make_call.Goals as goal
@@ -97,3 +99,14 @@ returns-in-FinishPredecessorsLookup-clause-ends c =
     ends_zeros c.finish_look_up.new.func c.finish_look_up.result
     (λ is. subst (λ ty. UseIsFull ty c.finish_look_up.new.func)
     (next_typed c.args.ty c.args.func.now c.args.self.now c.args.look_up.now c.args.call c.in-FinishPredecessorsLookup.param c.in-FinishPredecessorsLookup.block c.in-FinishPredecessorsLookup.is c.requires.calls_fit).1 (c.finish_look_up.ensures.full is)) c.finish_look_up.ensures.never_failed
+
+-- WHERE IT STOPS --------------------------------------------------------------------------------------------------
+
+pub returns-in-Some-clause-stops : goal.returns-in-Some-clause-stops
+returns-in-Some-clause-stops c = stops_more 0 (2 * finishes (c.args.call ∷ [])) _ _ _ _ c.look_up_in.result (omega arith) c.look_up_in.ensures.stops
+
+pub returns-in-FinishPredecessorsLookup-clause-stops : goal.returns-in-FinishPredecessorsLookup-clause-stops
+returns-in-FinishPredecessorsLookup-clause-stops c =
+    subst (λ call. StepStops (2 * finishes (call ∷ [])) c.args.func.now c.args.self.now c.finish_look_up.new.func c.args.self.now c.finish_look_up.result)
+    (sym c.in-FinishPredecessorsLookup.is)
+    (stops_grown 2 c.args.func.now c.finish_look_up.new.func c.args.self.now c.finish_look_up.result c.finish_look_up.ensures.at_most)

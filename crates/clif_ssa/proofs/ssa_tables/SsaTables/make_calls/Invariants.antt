@@ -1,4 +1,6 @@
+use Rattle.std.proofs.Common.{◌<◌}
 use Rattle.clif_ssa.specs.Constructs.{TellsMore}
+use Rattle.clif_ssa.specs.Counted.{finishes, CountsFor}
 use Rattle.clif_ssa.specs.Ssa.{NamesExist}
 use Rattle.clif_ssa.specs.LookUp.{MakesCalls}
 use Rattle.clif_ssa.specs.Running.{stage, CallsFit, work_of}
@@ -12,6 +14,7 @@ invariant-loop-call l = record {
   fits : CallsFit l.ty l.func l.self l.look_up;
   keeps : StepKeeps l.variable l.ty l.initial.func l.initial.self l.func l.self;
   tells : TellsMore l.initial.func l.func l.initial.look_up.zeros l.look_up.zeros;
+  counts : CountsFor (◌<◌ l.variable) (finishes l.initial.look_up.calls) l.initial.func l.initial.self (finishes l.look_up.calls) l.func l.self;
 }
 
 abbrev pub decreases-loop-call : goal.decreases-loop-call

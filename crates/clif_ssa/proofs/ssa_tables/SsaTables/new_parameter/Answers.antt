@@ -5,6 +5,7 @@ use Rattle.clif_records.specs.Tables.{sealed_at, predecessors_at}
 use Rattle.clif_records.specs.Tracking.{with_binding}
 use Rattle.clif_ssa.proofs.CountedOnce.{once_recorded}
 use Rattle.clif_ssa.proofs.Steps.{ends_memory, ends_ok, ends_unmade, keeps_same, keeps_recorded, keeps_unrecorded, known_same}
+use Rattle.clif_ssa.proofs.CountedSteps.{stops_memory, stops_unmade}
 use Rattle.clif_ssa.proofs.ssa_tables.SsaTables.new_parameter.Goals as goal
 
 pub returns-in_err-param-clause-keeps : goal.returns-in_err-param-clause-keeps
@@ -69,3 +70,15 @@ returns-clause-blocks c = c.record.ensures.blocks
 
 pub returns-clause-lookups : goal.returns-clause-lookups
 returns-clause-lookups c = c.record.ensures.lookups
+
+-- WHERE IT STOPS --------------------------------------------------------------------------------------------------
+
+pub returns-in_err-param-clause-stops : goal.returns-in_err-param-clause-stops
+returns-in_err-param-clause-stops c =
+    let p = err_from_is_err_and c.from_residual.result c.from_residual.ensures.1 in
+    rw (p.1, p.2) (stops_unmade c.args.func.now c.append_block_param.new.self c.args.self.now c.in_err-param.field-0.0 c.in_err-param.ensures.err)
+
+pub returns-in_err-record-clause-stops : goal.returns-in_err-record-clause-stops
+returns-in_err-record-clause-stops c =
+    let p = err_from_is_err_and c.from_residual-in_err-record.result c.from_residual-in_err-record.ensures.1 in
+    rw (p.1, p.2) (stops_memory c.in_err-record.field-0.0 c.in_err-record.ensures.only_memory)

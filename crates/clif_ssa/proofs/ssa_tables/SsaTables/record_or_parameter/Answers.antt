@@ -1,5 +1,6 @@
 use Rattle.std.proofs.lemmas.Result.{err_from_is_err_and}
 use Rattle.clif_ssa.proofs.Steps.{ends_memory, ends_ok, keeps_none}
+use Rattle.clif_ssa.proofs.CountedSteps.{stops_memory}
 use Rattle.clif_ssa.proofs.ssa_tables.SsaTables.record_or_parameter.Goals as goal
 
 pub returns-in_err-push_result-clause-got : goal.returns-in_err-push_result-clause-got
@@ -45,3 +46,13 @@ returns-clause-tells c =
 pub returns-clause-ends : goal.returns-clause-ends
 returns-clause-ends c =
     c.add_parameter.ensures.ends
+
+-- WHERE IT STOPS --------------------------------------------------------------------------------------------------
+
+pub returns-in_err-push_result-clause-stops : goal.returns-in_err-push_result-clause-stops
+returns-in_err-push_result-clause-stops c =
+    let p = err_from_is_err_and c.from_residual.result c.from_residual.ensures.1 in
+    rw (p.1, p.2) (stops_memory c.in_err-push_result.field-0.0 c.in_err-push_result.ensures.only_memory)
+
+pub returns-clause-stops : goal.returns-clause-stops
+returns-clause-stops c = c.add_parameter.ensures.stops

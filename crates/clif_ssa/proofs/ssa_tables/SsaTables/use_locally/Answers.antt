@@ -1,6 +1,8 @@
-use Rattle.std.proofs.Common.{◌∙◌, ◌+◌, ap, sym, inl, inr, length}
+use Rattle.std.proofs.Common.{◌∙◌, ◌+◌, ap, arith, refl, sym, inl, inr, length}
 use Rattle.std.proofs.lemmas.Result.{err_from_is_err_and}
 use Rattle.clif_records.specs.Tables.{is_yes, sealed_at, record_at, lookups_at}
+use Rattle.clif_ssa.proofs.CountedLooks.{waits_count, zero_counts}
+use Rattle.clif_ssa.proofs.CountedSteps.{counts_any, counts_memory, counts_none, counts_stopped}
 use Rattle.clif_ssa.proofs.LocalSteps.{counted_from, use_refused, use_waits, use_zeroes, waiting_from}
 use Rattle.clif_ssa.proofs.Pooling.{zero_full, zero_pools}
 use Rattle.clif_ssa.proofs.Opened.{blocks_are, counts_in, lookups_same, no_more_known, predecessors_same, records_are, records_same, sealed_same, state_of, tracking_is, waits_in}
@@ -115,3 +117,48 @@ returns-clause-keeps c =
 pub returns-clause-ends : goal.returns-clause-ends
 returns-clause-ends c =
     ends_ok c.new_parameter.new.func _
+
+-- HOW MUCH IT MAKES -----------------------------------------------------------------------------------------------
+
+pub returns-in_err-param-clause-counts : goal.returns-in_err-param-clause-counts
+returns-in_err-param-clause-counts c =
+    let p = err_from_is_err_and c.from_residual.result c.from_residual.ensures.1 in
+    rw (p.1, p.2)
+    (counts_stopped 0 c.new_parameter.new.func c.new_parameter.new.self c.in_err-param.field-0.0 (omega arith) refl (counts_none 0 c.args.func.now c.args.self.now)
+    c.in_err-param.ensures.stops)
+
+pub returns-in_err-count_lookup-clause-counts : goal.returns-in_err-count_lookup-clause-counts
+returns-in_err-count_lookup-clause-counts c =
+    let p = err_from_is_err_and c.from_residual-in_err-count_lookup.result c.from_residual-in_err-count_lookup.ensures.1 in
+    rw (p.1, p.2) (counts_memory c.in_err-count_lookup.field-0.0 c.in_err-count_lookup.ensures.only_memory)
+
+pub returns-in_err-zero-clause-counts : goal.returns-in_err-zero-clause-counts
+returns-in_err-zero-clause-counts c =
+    counts_any
+    (zero_counts c.args.variable c.args.block (length c.args.func.now.values) c.args.ty c.args.func.now c.new_parameter.new.func c.replace_by_zero.new.func c.args.self.now
+    (state_of c.count_lookup.new.self c.self.inside.blocks c.self.inside.tracking) c.requires.exists c.requires.unrecorded c.in_ok-param.ensures.function
+    (λ y b. records_same _ _ _ _ c.self.view_is c.count_lookup.new.self c.count_lookup.ensures.records y b ∙ c.in_ok-param.ensures.records y b)
+    (λ b. ap (λ known. sealed_at known b) (blocks_are _ _ _ _ c.self.view_is ∙ c.new_parameter.ensures.blocks)) c.replace_by_zero.ensures.at_most)
+
+pub returns-then-is_sealed-clause-counts : goal.returns-then-is_sealed-clause-counts
+returns-then-is_sealed-clause-counts c =
+    counts_any
+    (zero_counts c.args.variable c.args.block (length c.args.func.now.values) c.args.ty c.args.func.now c.new_parameter.new.func c.replace_by_zero.new.func c.args.self.now
+    (state_of c.count_lookup.new.self c.self.inside.blocks c.self.inside.tracking) c.requires.exists c.requires.unrecorded c.in_ok-param.ensures.function
+    (λ y b. records_same _ _ _ _ c.self.view_is c.count_lookup.new.self c.count_lookup.ensures.records y b ∙ c.in_ok-param.ensures.records y b)
+    (λ b. ap (λ known. sealed_at known b) (blocks_are _ _ _ _ c.self.view_is ∙ c.new_parameter.ensures.blocks)) c.replace_by_zero.ensures.at_most)
+
+pub returns-in_err-wait-clause-counts : goal.returns-in_err-wait-clause-counts
+returns-in_err-wait-clause-counts c =
+    let p = err_from_is_err_and c.from_residual-in_err-wait.result c.from_residual-in_err-wait.ensures.1 in
+    rw (p.1, p.2) (counts_memory c.in_err-wait.field-0.0 c.in_err-wait.ensures.only_memory)
+
+pub returns-clause-counts : goal.returns-clause-counts
+returns-clause-counts c =
+    counts_any
+    (waits_count c.args.variable c.args.block (length c.args.func.now.values) c.args.ty c.args.func.now c.new_parameter.new.func c.args.self.now
+    (state_of c.self.inside.variables c.wait.new.self c.self.inside.tracking) c.requires.exists c.requires.unrecorded c.in_ok-param.ensures.function
+    (λ y b. ap (λ rows. record_at rows y b) (records_are _ _ _ _ c.self.view_is) ∙ c.in_ok-param.ensures.records y b)
+    (waiting_from c.args.self.now c.new_parameter.new.self (state_of c.self.inside.variables c.wait.new.self c.self.inside.tracking) c.args.variable c.args.block c.in_ok-param.param
+    (length c.args.func.now.values) c.new_parameter.ensures.blocks c.in_ok-param.ensures.number
+    (waits_in _ _ _ _ c.self.view_is c.wait.new.self c.args.variable c.args.block c.in_ok-param.param c.in_ok-wait.ensures.ok)))
