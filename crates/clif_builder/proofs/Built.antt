@@ -15,6 +15,7 @@ use Rattle.clif_ir.specs.Consistent.{IsConsistent}
 use Rattle.clif_instructions.specs.Instruction.{destinations, is_branch, is_call, is_terminator, operands, result_type_of}
 use Rattle.clif_inst_builder.proofs.NoCalls.{plain_types}
 use Rattle.clif_tables.specs.Callees.{count_of_results, types_of_results}
+use Rattle.clif_tables.specs.Lists.{TableLists}
 use Rattle.clif_instructions.specs.Edges.{targets}
 use Rattle.clif_ssa.specs.Ssa.{SealedStays, SsaState}
 use Rattle.clif_ssa.specs.Structure.{LooksOnce}
@@ -136,12 +137,13 @@ none_appended : {A : Type 0} (o : Option ℕ) (P : ℕ → A → Type 0) (e : Bu
 none_appended None P e = tt
 none_appended (Some block) P e = tt
 
+counted_one : (tables : TableLists) (shape : InstructionData) (ty : «Type») → types_of_results tables shape ty ≡ result_type_of shape ty ∷ [] → count_of_results tables shape ≡ 1
+counted_one tables shape ty one = sym (length-types_of_results tables shape ty) ∙ ap (λ (ts : List «Type»). length ts) one
+
 pub builds_value_refused : {R : Type 0} (old new : FunctionBuilder R) (shape : InstructionData) (ty : «Type») (e : BuildError) → is_branch shape ≡ false → types_of_results old.func.now.tables shape ty ≡ result_type_of shape ty ∷ []
     → Builds old new shape ty (Err e) → BuildsValue old new shape ty (Err e)
 builds_value_refused old new shape ty e no_branch one built =
-    let few : count_of_results old.func.now.tables shape ≤ 1 =
-    let long : length (types_of_results old.func.now.tables shape ty) ≡ 1 = ap (λ (ts : List «Type»). length ts) one in
-    omega (arith, long, length-types_of_results old.func.now.tables shape ty) in
+    let single : count_of_results old.func.now.tables shape ≡ 1 = counted_one old.func.now.tables shape ty one in
     record {
       loans = built.loans;
       appends = none_appended old.position (λ block value. AppendsValue old new block shape ty value) e;
@@ -149,7 +151,7 @@ builds_value_refused old new shape ty e no_branch one built =
       variables = built.variables;
       position = built.position;
       srcloc = built.srcloc;
-      full = built.full_table few;
+      full = built.full_table (omega (arith, single));
       full_stays = built.full_stays;
       failed = built.failed;
       unchanged = built.unchanged;
@@ -158,6 +160,7 @@ builds_value_refused old new shape ty e no_branch one built =
       ledger = λ calls entries instruction agrees has. tt;
       stands = λ signature calls entries instruction stands has. tt;
       exists = tt;
+      one_result = single;
       grows = tt;
       remembers = λ v b. tt;
       current = tt;
@@ -234,6 +237,7 @@ module _ {R : Type 0} (old new : FunctionBuilder R) (shape : InstructionData) (t
     stands = λ signature calls entries instruction stands has.
         subst (λ (ns : List ℕ). StandsFor signature (after_build calls entries instruction ns) new) numbers (built.stands signature calls entries instruction stands has);
     exists = exists;
+    one_result = counted_one old.func.now.tables shape ty one;
     grows = built.grows;
     remembers = built.remembers;
     current = built.current goes_on;

@@ -34,6 +34,7 @@ use Rattle.clif_builder.specs.StandsFor.{StandsIn}
 use Rattle.clif_builder.proofs.Calls as calls
 use Rattle.clif_builder.proofs.Calls.{refused, same_looks, told_by}
 use Rattle.clif_builder.proofs.Framed.{filled-same}
+use Rattle.clif_builder.proofs.Counted.{counts_same, leaves_all}
 use Rattle.clif_builder.proofs.LedgerBlocks.{agrees-kept}
 use Rattle.clif_builder.proofs.LedgerKept.{answers-one, concluded}
 use Rattle.clif_builder.proofs.Named.{kept_by, kept_still}
@@ -58,6 +59,7 @@ tabled calls ledger f c p tables keeps agrees = record {
   variables = agrees.variables;
   tables = refl;
   tracks = agrees.tracks;
+  counts = counts_same calls f c (with_tables f tables) c refl refl refl (leaves_all c) agrees.counts;
   own = agrees.own;
   structured = λ types are. blocks_structured f f.blocks f.layout tables keeps types agrees.own c.ssa [] (λ x. refl) (λ x. refl) (agrees.structured types are);
   callers_types = agrees.callers_types;
@@ -124,7 +126,7 @@ entry_agrees calls f c p entry number agrees is =
     is ∙ sym (ap (λ (tables : TableLists). count_for tables entry) agrees.tables ∙ count_aside f.tables entry) in
     concluded calls (made entry number) g c p
     (agrees-kept calls (made entry number) between new g c c p p (AnEntry entry (count_for ledger.tables entry) ∷ []) is_tabled refl refl refl refl is_tabled.current is_tabled.variables
-    (λ d. refl) (λ d. refl) (λ d. refl) (tracks_still calls (made entry number) g.values c tt is_tabled.tracks) is_tabled.structured
+    (λ d. refl) (λ d. refl) (λ d. refl) (tracks_still calls (made entry number) g.values c tt is_tabled.tracks) (leaves_all c) is_tabled.structured
     (answers-one new g (length calls) (AnEntry entry (count_for ledger.tables entry)) number numbered tt))
 
 pub entry_stands : (declared : SignatureShape) (calls : List AnsweredCall) (f : Body) (c : ContextState) (p : Option ℕ) (entry : TableEntry) (number : ℕ) → IsConsistent f → StandsIn declared calls f c p

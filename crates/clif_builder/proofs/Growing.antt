@@ -12,7 +12,7 @@ use Rattle.std.specs.List.{range_with_len}
 use Rattle.clif_nodes.specs.declared.nodes.InstNode.{InstNode}
 use Rattle.clif_tables.specs.Lists.{TableLists}
 use Rattle.clif_ir.specs.Body.{Body, inst_at}
-use Rattle.clif_ir.specs.Changes.{HasNoRoom, inserted_in, with_block, with_layout, with_inst, with_param, inst_node}
+use Rattle.clif_ir.specs.Changes.{HasNoRoom, inserted_in, with_block, with_layout, with_inst, with_param, inst_node, with_cold, with_layout_after}
 use Rattle.clif_instructions.specs.Instruction.{is_terminator}
 use Rattle.clif_tables.specs.Callees.{types_of_results}
 use Rattle.clif_instructions.specs.Members.{stands_in}
@@ -21,6 +21,7 @@ use Rattle.clif_builder.specs.declared.context.BlockStatus.TheVariants.{Empty, P
 use Rattle.clif_builder.specs.Context.{ContextState, begun, status_of, FillsNone, SetsStatus, Begins}
 use Rattle.clif_builder.specs.declared.builder.FunctionBuilder.{FunctionBuilder}
 use Rattle.clif_builder.specs.Builder.{Appends, AppendsIn, AppendsPair, AppendsValue, HasCurrent, status_after, with_appended}
+use Rattle.clif_builder.specs.Built.{OnlyLaidOut}
 use Rattle.clif_builder.specs.Construction.{IsUse, IsSealingOf}
 use Rattle.clif_builder.specs.Growth.{EntriesStay, Grows}
 use Rattle.clif_ir.proofs.KeepsTables.{entry_stays}
@@ -51,6 +52,12 @@ Grows-inserted f b = by_test (stands_in b f.layout)
     by_test true = (omega arith, omega arith, omega arith, refl, refl, omega arith, refl, λ entry here. here, refl)
     by_test false = (omega arith, omega arith, omega arith, refl, refl, omega arith, refl, λ entry here. here, refl)
 
+pub Grows-laid : (f : Body) (b after : ℕ) → Grows f (with_layout_after f b after)
+Grows-laid f b after = (omega arith, omega arith, omega arith, refl, refl, omega arith, refl, λ entry here. here, refl)
+
+pub Grows-cold : (f : Body) (b : ℕ) → Grows f (with_cold f b)
+Grows-cold f b = (omega arith, omega arith, grind (arith, common_steps), refl, refl, omega arith, refl, λ entry here. here, refl)
+
 pub Grows-with_inst : (f : Body) (b : ℕ) (at : InsertAt) (shape : InstructionData) (types : List «Type») (loc : ℕ) → Grows f (with_inst f b at shape types loc)
 Grows-with_inst f b at shape types loc = (grind (arith, common_steps), grind (arith, common_steps), grind (arith, common_steps), refl, refl, omega arith, refl, λ entry here. here, refl)
 
@@ -64,10 +71,24 @@ Grows-constructs f g only =
     (only.values, only.insts, omega (arith, only.block_count), ap (λ (h : Body). h.name) only.same, ap (λ (h : Body). h.signature) only.same, omega (arith, slots), ap (λ (t : TableLists). t.jump_tables) only.tables.same, pools-stay f.tables g.tables only.tables, ap (λ (t : TableLists). t.exception_tables) only.tables.same)
 
 -- a block that enters the layout changes no value and no instruction
+pub same_values-inserted : (f : Body) (b : ℕ) → (inserted_in f b).values ≡ f.values
+same_values-inserted f b = by_test (stands_in b f.layout)
+  where
+    by_test : (c : Bool) → (if c then f else with_layout f b).values ≡ f.values
+    by_test true = refl
+    by_test false = refl
+
 pub values-inserted : (f : Body) (b : ℕ) → length (inserted_in f b).values ≡ length f.values
 values-inserted f b = by_test (stands_in b f.layout)
   where
     by_test : (c : Bool) → length (if c then f else with_layout f b).values ≡ length f.values
+    by_test true = refl
+    by_test false = refl
+
+pub laid_inserted : (f : Body) (b : ℕ) → OnlyLaidOut f (inserted_in f b)
+laid_inserted f b = by_test (stands_in b f.layout)
+  where
+    by_test : (c : Bool) → OnlyLaidOut f (if c then f else with_layout f b)
     by_test true = refl
     by_test false = refl
 

@@ -18,6 +18,7 @@ use Rattle.clif_simulation.proofs.Redirections.Predecessors.{leads_on}
 use Rattle.clif_builder.specs.Context.{ContextState}
 use Rattle.clif_builder.specs.Ledger.{LedgerAgrees, NamesBlock, block_name, ledger_of}
 use Rattle.clif_builder.specs.StandsFor.{StandsIn}
+use Rattle.clif_builder.proofs.Counted.{counts_same, leaves_all}
 use Rattle.clif_builder.proofs.LedgerBlocks.{agrees-kept}
 use Rattle.clif_builder.proofs.LedgerKept.{answers-none, concluded}
 use Rattle.clif_builder.proofs.LedgerNames.{name-number, named-block, same-block}
@@ -69,6 +70,7 @@ laid-agrees calls ledger f c p b a layout agrees same = record {
   variables = agrees.variables;
   tables = agrees.tables;
   tracks = agrees.tracks;
+  counts = counts_same calls f c (with_layout_after f b a) c refl refl refl (leaves_all c) agrees.counts;
   own = agrees.own;
   structured = λ types are.
       blocks_structured f f.blocks (put_behind b a f.layout) f.tables (λ constant bytes here. here) types agrees.own c.ssa [] (λ x. refl) (λ x. refl) (agrees.structured types are);
@@ -98,7 +100,7 @@ laid calls f c p block after b a agrees names_block names_after =
     let is_laid = laid-agrees calls ledger f c p b a between.layout agrees
     (after-same ledger block after b a ledger.layout f.layout (λ j x named. same-block calls ledger numbered j a x after named at_after) at_block agrees.layout) in
     concluded calls call g c p
-    (agrees-kept calls call between new g c c p p [] is_laid refl refl refl refl is_laid.current is_laid.variables (λ d. refl) (λ d. refl) (λ d. refl) (tracks_still calls call g.values c tt is_laid.tracks) is_laid.structured
+    (agrees-kept calls call between new g c c p p [] is_laid refl refl refl refl is_laid.current is_laid.variables (λ d. refl) (λ d. refl) (λ d. refl) (tracks_still calls call g.values c tt is_laid.tracks) (leaves_all c) is_laid.structured
     (answers-none new g (length calls)))
 
 -- what the construction names exists in it

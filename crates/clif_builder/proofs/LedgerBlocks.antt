@@ -1,7 +1,7 @@
 -- A block is created, made current or sealed: the agreement with the ledger is kept.
 use Rattle.std.proofs.Common.{◌≡◌, ◌≢◌, ◌+◌, ◌<◌, ◌≤◌, ℕ, zero, suc, List, [], ◌∷◌, ◌++◌, length, refl, sym, ◌∙◌, ap, subst, arith, inl, inr, length-append}
 use Rattle.std.specs.Prelude.{map, slice_get, slice_index_or, Option, Some, option_map, option_and_then, Bool, true, false, if◌then◌else◌, ◌==◌, Contains, Result, Ok, Err, IfOk, OnOk}
-use Rattle.std.proofs.lemmas.Bool.{ne_eqb}
+use Rattle.std.proofs.lemmas.Bool.{eqb-true, ne_eqb}
 use Rattle.clif_ir.specs.Body.{Body, block_at}
 use Rattle.clif_nodes.specs.Nodes.{BlockNode, empty_block}
 use Rattle.clif_ir.specs.Changes.{with_block}
@@ -25,6 +25,7 @@ use Rattle.clif_builder.specs.Context.{Begins, ContextState, SameStatus, SameVar
 use Rattle.clif_builder.specs.Builder.{is_empty_status, is_filled_status}
 use Rattle.clif_builder.specs.Construction.{IsSealing}
 use Rattle.clif_builder.specs.Ledger.{AnswersAgree, BlockAgrees, HaveTypes, IsBegun, IsEnded, IsStructured, LedgerAgrees, NamesBlock, VariablesAgree, block_name, ledger_of, value_type, tables_of_calls, TracksAgree}
+use Rattle.clif_builder.proofs.Counted.{LeavesCounts, counts_kept, counts_on, leaves_all, leaves_records, spends_created, spends_sealed}
 use Rattle.clif_builder.proofs.LedgerLists.{get-front, get-last, get-push, if-yes, if-no, named-more, one-named-more, map-some}
 use Rattle.clif_builder.proofs.LedgerNames.{name-number, named-block, state-entries}
 use Rattle.clif_builder.proofs.LedgerKept.{answer-still, Extends, Keeps, extends-constructs, keeps-block, keeps-itself, keeps-of, answers-after, places-after, answers-none, answers-one, concluded, types-kept}
@@ -74,9 +75,9 @@ block-kept calls call f g c d k s was cold sealed leads status =
 pub agrees-kept : (calls : List AnsweredCall) (call : AnsweredCall) (old new : Ledger) (f : Body) (c d : ContextState) (p q : Option ℕ) (answered : List Answered)
     (agrees : LedgerAgrees calls old f c p) → new.answers ≡ old.answers ++ answered ∷ [] → new.blocks ≡ old.blocks → new.layout ≡ old.layout → new.tables ≡ old.tables
     → option_map Some new.current ≡ option_map (block_name old) q → VariablesAgree new.variables d
-    → ((b : ℕ) → is_yes (sealed_of d.ssa b) ≡ is_yes (sealed_of c.ssa b)) → SamePredecessors c.ssa d.ssa → SameStatus c d → TracksAgree (calls ++ call ∷ []) f.values d → IsStructured agrees.own f d
+    → ((b : ℕ) → is_yes (sealed_of d.ssa b) ≡ is_yes (sealed_of c.ssa b)) → SamePredecessors c.ssa d.ssa → SameStatus c d → TracksAgree (calls ++ call ∷ []) f.values d → LeavesCounts c d → IsStructured agrees.own f d
     → AnswersAgree new f (length calls) answered call.numbers → LedgerAgrees (calls ++ call ∷ []) new f d q
-agrees-kept calls call old new f c d p q answered agrees answers blocks layout tables current variables sealed leads status tracks structured fresh =
+agrees-kept calls call old new f c d p q answered agrees answers blocks layout tables current variables sealed leads status tracks counts structured fresh =
     record {
       places = places-after calls call old new answered agrees.places answers;
       answers = answers-after calls call old new f f c p answered agrees answers names (keeps-itself f) fresh;
@@ -91,6 +92,7 @@ agrees-kept calls call old new f c d p q answered agrees answers blocks layout t
       variables = variables;
       tables = tables ∙ agrees.tables;
       tracks = tracks;
+      counts = counts_kept calls call f c d counts agrees.counts;
       own = agrees.own;
       structured = structured;
       callers_types = λ k s there. agrees.callers_types k s (ap (λ (states : List BlockState). slice_get states k) (sym blocks) ∙ there);
@@ -121,7 +123,7 @@ pub agrees-switched : (calls : List AnsweredCall) (ledger : Ledger) (f : Body) (
 agrees-switched calls ledger f c p name block agrees named =
     let call : AnsweredCall = record { request = SwitchToBlock name; numbers = [] } in
     let new : Ledger = ledger_with ledger (SwitchToBlock name) in
-    agrees-kept calls call ledger new f c c p (Some block) [] agrees refl refl refl refl (ap Some (sym named)) agrees.variables (λ b. refl) (λ b. refl) (λ b. refl) (tracks_still calls call f.values c tt agrees.tracks) agrees.structured
+    agrees-kept calls call ledger new f c c p (Some block) [] agrees refl refl refl refl (ap Some (sym named)) agrees.variables (λ b. refl) (λ b. refl) (λ b. refl) (tracks_still calls call f.values c tt agrees.tracks) (leaves_all c) agrees.structured
     (answers-none new f (length calls))
 
 pub switched : (calls : List AnsweredCall) (f : Body) (c : ContextState) (p : Option ℕ) (name : Name) (block : ℕ)
@@ -152,6 +154,9 @@ agrees-created calls ledger f g c d p block agrees function number records seale
       tracks =
           tracks_on calls _ f.values c g.values d tt
           (keeps_same f.values g.values c d (λ v is. subst (λ (h : Body). IsParameterAmong h.values v) (sym function) is) (λ x b. ap (λ (m : RecordMap). record_at m x b) records) tracking) agrees.tracks;
+      counts =
+          counts_on calls _ f c g d
+          (spends_created f c g d (in_order agrees) function (leaves_records c d variables.0 (λ x b. ap (λ (m : RecordMap). record_at m x b) records) sealed)) agrees.counts;
       own = agrees.own;
       structured = λ types are.
           let own : Own = agrees.own in
@@ -337,6 +342,11 @@ module _ (calls : List AnsweredCall) (ledger : Ledger) (f g : Body) (c d : Conte
             (keeps_made f.values f.values g.values f c d refl extends.parameters sealing.stay (records_exist agrees.own f c agrees.structured)
             sealing.tracks sealing.makes)
             agrees.tracks;
+        counts =
+            counts_on calls call f c g d (spends_sealed _ _ f c g d (λ b. b == block) told (in_order agrees)
+            (λ b is. subst (λ (n : ℕ). n < length f.blocks) (sym (eqb-true b block is)) (block-exists calls ledger f c p agrees block name named))
+            sealing extends.block_count variables.0)
+            agrees.counts;
         own = agrees.own;
         structured = structured;
         callers_types = λ k t there.

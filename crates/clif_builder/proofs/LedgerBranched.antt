@@ -22,6 +22,7 @@ use Rattle.clif_builder.specs.Context.{ContextState, SameStatus, SameVariables}
 use Rattle.clif_builder.specs.Builder.{is_empty_status, is_filled_status}
 use Rattle.clif_builder.specs.Construction.{IsDeclared}
 use Rattle.clif_builder.specs.Ledger.{BlockAgrees, IsBegun, IsEnded, IsStructured, LedgerAgrees, VariablesAgree, block_name, value_type}
+use Rattle.clif_builder.proofs.Counted.{counts_same, leaves_records}
 use Rattle.clif_builder.proofs.LedgerLists.{if-yes, if-no, map-some, named-more, one-named-more}
 use Rattle.clif_builder.proofs.LedgerNames.{IsNumbered, name-number}
 use Rattle.clif_builder.proofs.LedgerKept.{answers-kept, keeps-itself}
@@ -166,6 +167,9 @@ module _ (calls : List AnsweredCall) (old new : Ledger) (g : Body) (c d : Contex
         variables = agree_same new.variables c d variables (subst (λ (states : List VariableState). VariablesAgree states c) (sym ledger.variables) agrees.variables);
         tables = ledger.tables ∙ agrees.tables;
         tracks = tracks_same calls g.values c d (records-along declared.told c.ssa d.ssa inst declared.along) declared.tracking agrees.tracks;
+        counts =
+            counts_same calls g c g d refl refl refl
+            (leaves_records c d variables.0 (records-along declared.told c.ssa d.ssa inst declared.along) (blocks-along declared.told c.ssa d.ssa inst declared.along)) agrees.counts;
         own = mine;
         structured = structured;
         callers_types = λ k t there.

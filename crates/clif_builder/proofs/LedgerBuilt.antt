@@ -44,6 +44,7 @@ use Rattle.clif_builder.specs.Builder.{CanLeadIn}
 use Rattle.clif_builder.specs.Construction.{IsDeclared}
 use Rattle.clif_builder.specs.Ledger.{AnswersAgree, IsEnded, IsStructured, LedgerAgrees, NamesEdges, VariablesAgree, block_name, value_type, ledger_of}
 use Rattle.clif_builder.specs.Order.{IsInOrder}
+use Rattle.clif_builder.proofs.Counted.{SpendsFor, leaves_ssa, spends_appended}
 use Rattle.clif_builder.proofs.LedgerLists.{get-last, name-of-some}
 use Rattle.clif_builder.proofs.LedgerNames.{name-number, state-twice}
 use Rattle.clif_builder.proofs.LedgerKept.{Continues, Extends, Extends-then, Extends-inserted, Continues-inst, branch-kept, inserted-insts, keeps-of, answers-one, answers-results}
@@ -149,6 +150,7 @@ agrees-plain place calls ledger f g c d p block shape entries operation controll
     (agree_same _ c d variables (subst (λ (states : List VariableState). VariablesAgree states c) (sym (variables_by (is_terminator operation) goes_on)) agrees.variables))
     (begun-agrees (status_of c block)) sets
     (appends-make _ f g c d block shape types (begun (status_of c block)) (in_order agrees) consistent exists function sets (begun-not-empty (status_of c block)) (λ filled. ap begun filled) ssa variables)
+    (spends_appended place _ f c g d block shape types function (let count = ap (λ (ts : List «Type»). length ts) typed in omega (arith, count)) (leaves_ssa c d variables.0 ssa))
     (answers new)
   where
     begun_by : (ends : Bool) → ends ≡ false → (x : Name) → ledger.current ≡ Some x
@@ -270,6 +272,9 @@ module _ (place : ℕ) (calls : List AnsweredCall) (f g : Body) (c d : ContextSt
   makes : Makes agrees.own f c g undeclared block
   makes = appends-make _ f g c undeclared block shape [] Filled (in_order agrees) consistent exists function sets some (λ filled. refl) refl variables
 
+  spends : SpendsFor call.request f c g undeclared
+  spends = spends_appended place _ f c g undeclared block shape [] function (omega arith) (leaves_ssa c undeclared variables.0 refl)
+
   current : (x : Name) × (ledger.current ≡ Some x) × (block_name ledger block ≡ Some x)
   current = name-of-some (block_name ledger) ledger.current block (agrees.current ∙ ap (option_map (block_name ledger)) at)
 
@@ -285,13 +290,13 @@ module _ (place : ℕ) (calls : List AnsweredCall) (f g : Body) (c d : ContextSt
   abbrev ended : LedgerAgrees (calls ++ call ∷ []) (record ended_ledger { answers = answered }) g undeclared p
   ended =
       agrees-made calls call ledger (record ended_ledger { answers = answered }) f g c undeclared p block current.0 (λ (t : BlockState). filled (unpristine t)) Filled (AnInstruction ∷ [])
-      agrees tt current.2 refl changed agree (filled-agrees (status_of c block)) sets makes
+      agrees tt current.2 refl changed agree (filled-agrees (status_of c block)) sets makes spends
       (answers-one (record ended_ledger { answers = answered }) g (length calls) AnInstruction inst (node, there) (node, there, refl))
 
   same_callers : (b : ℕ) → agrees.own.params b ≡ ended.own.params b
   same_callers b = sym
       (made-callers calls call ledger (record ended_ledger { answers = answered }) f g c undeclared p block current.0 (λ (t : BlockState). filled (unpristine t)) Filled (AnInstruction ∷ [])
-      agrees tt current.2 refl changed agree (filled-agrees (status_of c block)) sets makes
+      agrees tt current.2 refl changed agree (filled-agrees (status_of c block)) sets makes spends
       (answers-one (record ended_ledger { answers = answered }) g (length calls) AnInstruction inst (node, there) (node, there, refl)) b)
 
   number : number_of (calls ++ call ∷ []) (next_answer ledger) ≡ Some inst

@@ -21,6 +21,7 @@ use Rattle.clif_builder.specs.declared.error.FinalizeError.TheVariants as error
 use Rattle.clif_builder.specs.declared.builder.FunctionBuilder.{FunctionBuilder}
 use Rattle.clif_builder.specs.Context.{ContextState, empty_context, status_of}
 use Rattle.clif_builder.specs.Builder.{answer_of, block_fault, first_fault, is_empty_status, is_filled_status, or_else, verdict_of}
+use Rattle.clif_builder.proofs.Counted.{counts_first}
 use Rattle.clif_builder.proofs.Exactly.{nothing_recorded}
 use Rattle.clif_builder.specs.Ledger.{AgreesWithLedger, BlockAgrees, LedgerAgrees, RefusalAgrees, ledger_of, was_touched}
 
@@ -46,6 +47,7 @@ agrees-empty name signature =
       variables = record { types = refl; touched = none_touched };
       tables = refl;
       tracks = record { marks = none_marked; exactly = nothing_recorded; untracked = λ asks. refl };
+      counts = counts_first name signature;
       own = no_own;
       structured = λ types are. first_structured types name signature;
       callers_types = λ k s there. absurd (none-some s there);

@@ -21,6 +21,7 @@ use Rattle.clif_builder.specs.declared.context.BlockStatus.TheVariants.{Empty, F
 use Rattle.clif_builder.specs.Context.{ContextState, status_of, SetsStatus}
 use Rattle.clif_builder.specs.Builder.{is_empty_status, is_filled_status}
 use Rattle.clif_builder.specs.Ledger.{AloneUnlessBegun, AnswersAgree, BlockAgrees, IsBegun, IsEnded, IsStructured, LedgerAgrees, VariablesAgree, block_name, value_type}
+use Rattle.clif_builder.proofs.Counted.{SpendsFor, counts_on}
 use Rattle.clif_builder.proofs.LedgerLists.{if-yes, if-no, named-more, numbered-more, one-named-more, map-some}
 use Rattle.clif_builder.proofs.LedgerNames.{IsNumbered, name-number, block-inserted, state-names, state-entries}
 use Rattle.clif_builder.proofs.LedgerKept.{answer-still, Extends, keeps-of, answers-after, places-after, stands-inserted, stands-still, types-kept}
@@ -179,9 +180,9 @@ layout-after calls old new f block name numbered same named names =
 pub agrees-made : (calls : List AnsweredCall) (call : AnsweredCall) (old new : Ledger) (f g : Body) (c d : ContextState) (p : Option ℕ) (block : ℕ) (name : Name) (change : BlockState → BlockState) (status : BlockStatus) (answered : List Answered)
     (agrees : LedgerAgrees calls old f c p) → TracksNothingNew call.request → block_name old block ≡ Some name
     → new.answers ≡ old.answers ++ answered ∷ [] → MadeLedger old new name change → VariablesAgree new.variables d
-    → ChangeAgrees change (status_of c block) status → SetsStatus c d block status → Makes agrees.own f c g d block
+    → ChangeAgrees change (status_of c block) status → SetsStatus c d block status → Makes agrees.own f c g d block → SpendsFor call.request f c g d
     → AnswersAgree new g (length calls) answered call.numbers → LedgerAgrees (calls ++ call ∷ []) new g d p
-agrees-made calls call old new f g c d p block name change status answered agrees asks named answers ledger variables changes sets makes fresh =
+agrees-made calls call old new f g c d p block name change status answered agrees asks named answers ledger variables changes sets makes spends fresh =
     record {
       places = places-after calls call old new answered agrees.places answers;
       answers = answers-after calls call old new f g c p answered agrees answers names (keeps-of f g makes.extends) fresh;
@@ -194,6 +195,7 @@ agrees-made calls call old new f g c d p block name change status answered agree
       variables = variables;
       tables = ledger.tables ∙ agrees.tables ∙ sym makes.extends.tables;
       tracks = tracks_on calls call f.values c g.values d asks makes.tracks agrees.tracks;
+      counts = counts_on calls call f c g d spends agrees.counts;
       own = makes.own;
       structured = makes.structured;
       callers_types = λ k t there.
@@ -233,11 +235,11 @@ agrees-made calls call old new f g c d p block name change status answered agree
 pub made-callers : (calls : List AnsweredCall) (call : AnsweredCall) (old new : Ledger) (f g : Body) (c d : ContextState) (p : Option ℕ) (block : ℕ) (name : Name) (change : BlockState → BlockState) (status : BlockStatus) (answered : List Answered)
     (agrees : LedgerAgrees calls old f c p) (asks : TracksNothingNew call.request) (named : block_name old block ≡ Some name)
     (answers : new.answers ≡ old.answers ++ answered ∷ []) (ledger : MadeLedger old new name change) (variables : VariablesAgree new.variables d)
-    (changes : ChangeAgrees change (status_of c block) status) (sets : SetsStatus c d block status) (makes : Makes agrees.own f c g d block)
+    (changes : ChangeAgrees change (status_of c block) status) (sets : SetsStatus c d block status) (makes : Makes agrees.own f c g d block) (spends : SpendsFor call.request f c g d)
     (fresh : AnswersAgree new g (length calls) answered call.numbers)
-    → (b : ℕ) → (agrees-made calls call old new f g c d p block name change status answered agrees asks named answers ledger variables changes sets makes fresh).own.params b ≡ agrees.own.params b
+    → (b : ℕ) → (agrees-made calls call old new f g c d p block name change status answered agrees asks named answers ledger variables changes sets makes spends fresh).own.params b ≡ agrees.own.params b
 unfolding agrees-made
-made-callers calls call old new f g c d p block name change status answered agrees asks named answers ledger variables changes sets makes fresh b = makes.callers b
+made-callers calls call old new f g c d p block name change status answered agrees asks named answers ledger variables changes sets makes spends fresh b = makes.callers b
 
 -- the ledger in which something was made in the current block
 abbrev pub unpristine : BlockState → BlockState

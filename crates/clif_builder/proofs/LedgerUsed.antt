@@ -22,6 +22,7 @@ use Rattle.clif_builder.specs.Construction.{IsUse}
 use Rattle.clif_builder.specs.Ledger.{AreTypesOf, LedgerAgrees, VariablesAgree, block_name, value_type, ledger_of}
 use Rattle.clif_builder.specs.Order.{IsInOrder}
 use Rattle.clif_builder.proofs.BlockValues.{parameters_constructed, parameters_inserted, same_inserted}
+use Rattle.clif_builder.proofs.Counted.{spends_used}
 use Rattle.clif_builder.proofs.LedgerLists.{name-of-some}
 use Rattle.clif_builder.proofs.LedgerKept.{Extends-inserted, Extends-then, answers-one, concluded, extends-constructs}
 use Rattle.clif_builder.proofs.LedgerMade.{ChangeAgrees, MadeLedger, Makes, agrees-made, begun-ledger, begun-variables, unpristine}
@@ -139,10 +140,11 @@ module _ (calls : List AnsweredCall) (ledger : Ledger) (f g : Body) (c d : Conte
       let variables : VariablesAgree (touched_at variable (with_begun ledger).variables) d =
       subst (λ (states : List VariableState). VariablesAgree (touched_at variable states) d) (sym (begun-variables ledger))
       (agree_touched ledger.variables c d variable inside touches agrees.variables) in
+      let makes : Makes agrees.own f c g d block = use-makes f g c d variable ty block value told (in_order agrees) declared use_of begins consistent touches in
       agrees-made calls call ledger new f g c d p block name unpristine (begun (status_of c block)) (AValue ty ∷ []) agrees tt current.2
       (ap (λ (o : Option «Type»). ledger.answers ++ (AValue (or_invalid o) ∷ []) ∷ []) typed) changed variables
       (begun-agrees (status_of c block)) (used_status f c (in_order agrees) g d variable ty block value told use_of begins)
-      (use-makes f g c d variable ty block value told (in_order agrees) declared use_of begins consistent touches)
+      makes (spends_used _ _ f c g d variable ty block value told declared use_of makes.extends.block_count touches.0)
       (answers-one new g (length calls) (AValue ty) value (use-typed f g c d variable ty block value told (in_order agrees) declared use_of begins consistent touches) tt)
 
 -- what comes of a use

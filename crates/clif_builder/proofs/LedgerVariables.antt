@@ -15,6 +15,7 @@ use Rattle.clif_ssa.proofs.StructuredLaws.{assigned_structured}
 use Rattle.clif_builder.specs.declared.context.BlockStatus.{BlockStatus}
 use Rattle.clif_builder.specs.Context.{ContextState, TouchesVariable, status_of}
 use Rattle.clif_builder.specs.Ledger.{AreTypesOf, LedgerAgrees, NamesValue, ledger_of}
+use Rattle.clif_builder.proofs.Counted.{leaves_declared, leaves_recorded}
 use Rattle.clif_builder.proofs.LedgerLists.{get-front}
 use Rattle.clif_builder.proofs.LedgerKept.{answers-none, answers-one, concluded}
 use Rattle.clif_builder.proofs.LedgerBlocks.{agrees-kept}
@@ -35,7 +36,7 @@ agrees-declared calls ledger f c p ty variable agrees number =
     let d : ContextState = record c { variables = c.variables ++ ty ∷ [] } in
     agrees-kept calls call ledger new f c d p p (AVariable (length ledger.variables) ∷ []) agrees refl refl refl refl agrees.current
     (agree_declared ledger.variables c ty agrees.variables)
-    (λ b. refl) (λ b. refl) (λ b. refl) (tracks_on calls call f.values c f.values d tt (keeps_ssa f.values f.values c d (λ v is. is) refl) agrees.tracks)
+    (λ b. refl) (λ b. refl) (λ b. refl) (tracks_on calls call f.values c f.values d tt (keeps_ssa f.values f.values c d (λ v is. is) refl) agrees.tracks) (leaves_declared c ty)
     (λ types are. agrees.structured types (λ x t is touched. are x t (get-front c.variables _ x t is) touched))
     (answers-one new f (length calls) (AVariable (length ledger.variables)) variable (number ∙ sym (variable-count calls ledger f c p agrees)) tt)
 
@@ -60,7 +61,7 @@ agrees-assigned calls ledger f c d p variable name block value ty agrees names d
     (agree_touched ledger.variables c d variable inside touches agrees.variables)
     (λ b. ap (λ (xs : List SsaBlock). is_yes (sealed_at xs b)) blocks) leads
     (λ b. ap (λ (xs : List BlockStatus). status_of (record c { status = xs }) b) status)
-    (tracks_bound calls f.values c d variable block value name names records tracking agrees.tracks)
+    (tracks_bound calls f.values c d variable block value name names records tracking agrees.tracks) (leaves_recorded c d variable block value touches.0 records blocks)
     (λ types are.
     let before : AreTypesOf c types = types_before c d variable types touches are in
     let has : HasType f value (types variable) = subst (HasType f value) (sym (type_touched c d variable ty types touches declared are)) typed in

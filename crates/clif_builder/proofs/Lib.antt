@@ -19,6 +19,8 @@ pub mod LedgerVariables
 pub mod LedgerEnds
 pub mod Declaring
 pub mod Growing
+pub mod GoingOn
+pub mod UsedAlike
 pub mod Labelling
 pub mod Laid
 mod Fresh
@@ -48,6 +50,7 @@ pub mod Lasting
 pub mod Tracking
 mod Needing
 pub mod Tracks
+pub mod Counted
 mod Made
 pub mod Exactly
 pub mod Ending
@@ -58,3 +61,4 @@ pub mod ReadByNumber
 pub mod StandingForCalls
 mod SealingAlone
 pub mod Keeping
+pub mod Adding

@@ -27,6 +27,7 @@ use Rattle.clif_builder.specs.Context.{ContextState, SameVariables, SetsStatus, 
 use Rattle.clif_builder.specs.Ledger.{BlockAgrees, IsEnded, LedgerAgrees, NamesBlock, VariablesAgree, block_name, ledger_of}
 use Rattle.clif_builder.specs.Order.{IsInOrder}
 use Rattle.clif_builder.specs.StandsFor.{StandsIn}
+use Rattle.clif_builder.proofs.Counted.{counts_on, leaves_all, leaves_ssa, spends_inserted, spends_itself}
 use Rattle.clif_builder.proofs.LedgerKept.{Extends-inserted, Keeps, answer-still, answers-after, answers-none, branch-kept, concluded, keeps-of, places-after}
 use Rattle.clif_builder.proofs.LedgerLists.{name-of-some, named-more, one-named-more}
 use Rattle.clif_builder.proofs.LedgerMade.{MadeLedger, Makes, agrees-made, alone-still, begun-ledger, begun-variables, block-exists, ended-still, numbers-kept, unpristine}
@@ -120,6 +121,7 @@ module _ (calls : List AnsweredCall) (f : Body) (c : ContextState) (p : Option �
     variables = agrees.variables;
     tables = agrees.tables;
     tracks = tracks_still calls marks f.values c tt agrees.tracks;
+    counts = counts_on calls marks f c g c (spends_itself _ _ f c g c (omega arith) (omega arith) (length-set f.blocks b _) (leaves_all c)) agrees.counts;
     own = agrees.own;
     structured = λ types are.
         blocks_structured f g.blocks f.layout f.tables (λ constant bytes here. here) types agrees.own c.ssa [] (cold_params f.blocks b) (cold_insts f.blocks b)
@@ -209,7 +211,8 @@ ensured calls f g c d p block (Ok u) agrees at is sets ssa variables =
     (subst (λ (h : Body). LedgerAgrees (calls ++ call ∷ []) new h d p) (sym is)
     (agrees-made calls call ledger new f (inserted_in f block) c d p block current.0 unpristine (begun (status_of c block)) [] agrees tt current.2 refl changed
     (agree_same _ c d variables (subst (λ (states : List VariableState). VariablesAgree states c) (sym (begun-variables ledger)) agrees.variables))
-    (begun-agrees (status_of c block)) sets (ensured-makes f c d block (in_order agrees) sets ssa variables) (answers-none new (inserted_in f block) (length calls))))
+    (begun-agrees (status_of c block)) sets (ensured-makes f c d block (in_order agrees) sets ssa variables)
+    (spends_inserted _ _ f c d block (leaves_ssa c d variables.0 ssa)) (answers-none new (inserted_in f block) (length calls))))
 
 -- one block has another status than empty, if it had one, or is the one in which something was made
 still_begun : (c d : ContextState) (block : ℕ) → SetsStatus c d block (begun (status_of c block))

@@ -29,6 +29,7 @@ use Rattle.clif_builder.specs.Tracking.{with_tracking}
 use Rattle.clif_builder.proofs.Calls.{told}
 use Rattle.clif_builder.proofs.Exactly.{exactly_needing}
 use Rattle.clif_builder.proofs.Growing.{on_ok_step}
+use Rattle.clif_builder.proofs.Counted.{leaves_records}
 use Rattle.clif_builder.proofs.LedgerBlocks.{agrees-kept}
 use Rattle.clif_builder.proofs.LedgerKept.{answers-none, concluded, ledger-more}
 use Rattle.clif_builder.proofs.LedgerVariables.{variable-count}
@@ -69,7 +70,7 @@ module _ (calls : List AnsweredCall) (f : Body) (c : ContextState) (p : Option �
       let new : Ledger = ledger_with (ledger_of calls) (NeedStackMap need) in
       concluded calls call f d p
       (agrees-kept calls call (ledger_of calls) new f c d p p [] agrees refl refl refl refl agrees.current (agree_same _ c d (refl, refl) (agree_needed need (ledger_of calls).variables c agrees.variables))
-      (λ b. refl) (λ b. refl) (λ b. refl) (need_tracks marks tracks agrees.tracks)
+      (λ b. refl) (λ b. refl) (λ b. refl) (need_tracks marks tracks agrees.tracks) (leaves_records c d refl (λ x b. refl) (λ b. refl))
       (λ types are. same_structured types agrees.own f c.ssa d.ssa [] (λ x b. refl) (λ b. refl) (λ b. refl) (agrees.structured types are))
       (answers-none new f (length calls)))
 

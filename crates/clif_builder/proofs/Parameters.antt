@@ -25,6 +25,7 @@ use Rattle.clif_simulation.proofs.ParameterCalls.{Makes}
 use Rattle.clif_builder.specs.declared.context.BlockStatus.TheVariants.{Empty}
 use Rattle.clif_builder.specs.Context.{ContextState, status_of}
 use Rattle.clif_builder.specs.Ledger.{AloneUnlessBegun, AnswerAgrees, AnswersAgree, BlockAgrees, HaveTypes, IsBegun, LedgerAgrees, VariablesAgree, ResultsFollow, block_name, value_type}
+use Rattle.clif_builder.proofs.Counted.{SpendsFor, counts_on, spends_params}
 use Rattle.clif_builder.proofs.LedgerLists.{get-last, named-more, one-named-more}
 use Rattle.clif_builder.proofs.LedgerNames.{name-number, state-entries}
 use Rattle.clif_builder.proofs.LedgerKept.{answer-still, answers-after, branch-kept, Extends, Extends-param, Extends-same, Extends-then, keeps-of, places-after, types-kept}
@@ -221,6 +222,7 @@ module _ (calls : List AnsweredCall) (ledger : Ledger) (f : Body) (c : ContextSt
     variables = subst (λ (states : List VariableState). VariablesAgree states c) (sym variables_are) agrees.variables;
     tables = tables_are ∙ agrees.tables ∙ sym extends.tables;
     tracks = tracks_more calls call f.values g.values c (tracks_none makes) extends.parameters agrees.tracks;
+    counts = counts_on calls call f c g c (by_request (λ (r : Request). SpendsFor r f c g c) (spends_params 0 f c b types) (spends_params 0 f c b types)) agrees.counts;
     own = mine;
     structured = λ declared are. params_structured b (length calls) declared agrees.own f c.ssa types (firm_from f consistent) there bare (agrees.structured declared are);
     callers_types = λ k t at.

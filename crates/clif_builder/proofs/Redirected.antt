@@ -52,6 +52,7 @@ use Rattle.clif_builder.proofs.LedgerNames.{IsNumbered, by-number, name-number, 
 use Rattle.clif_builder.proofs.Placed.{in_order}
 use Rattle.clif_builder.proofs.StandingCallers.{alone_after, kept_alone, same_callers}
 use Rattle.clif_builder.proofs.Touching.{agree_same, are_types}
+use Rattle.clif_builder.proofs.Counted.{counts_on, leaves_records, spends_redirected}
 use Rattle.clif_builder.proofs.Tracks.{keeps_same, tracks_on}
 
 -- WHAT THE CALLER PASSED ------------------------------------------------------------------------------------------------
@@ -491,6 +492,10 @@ module _ (declared : SignatureShape) (calls : List AnsweredCall) (f : Body) (c :
     tracks =
         tracks_on calls _ f.values c g.values d tt
         (keeps_same f.values g.values c d extends.parameters (λ x k. ap (λ (m : RecordMap). record_at m x k) redirects.records) redirects.tracking) agrees.tracks;
+    counts =
+        counts_on calls call f c g d (spends_redirected f c g d i a b redirects.moved
+        (leaves_records c d redirects.variables.0 (λ x k. ap (λ (m : RecordMap). record_at m x k) redirects.records) redirects.moved.blocks))
+        agrees.counts;
     own = own_passing agrees.own f b;
     structured = λ types are.
         structured_still f c g d i a b redirects within open_a open_b leads agrees.own consistent types

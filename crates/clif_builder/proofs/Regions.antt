@@ -2,7 +2,6 @@
 use Rattle.std.proofs.Common.{◌≡◌, ◌-◌, ℕ, length, refl, sym, ap, subst, arith}
 use Rattle.std.specs.Prelude.{Option, None, Some}
 use Rattle.std.specs.List.{FoldsTo}
-use Rattle.clif_types.specs.AliasRegions.{AliasRegionTable}
 use Rattle.clif_ir.specs.Body.{Body}
 use Rattle.clif_region_laws.specs.Regions.{AreAlikeButForRegions, plain_body}
 use Rattle.clif_regions.specs.Asking.{Asks, CarriesAnswersOf, MayAnswer, accesses}

@@ -1,11 +1,12 @@
 -- What each call leaves of records, and of which values stand for one value.
-use Rattle.std.proofs.Common.{◌≡◌, ℕ, ◌==◌, ◌&&◌, if◌then◌else◌, Bool, true, false, List, [], ◌∷◌, ◌++◌, refl, sym, ◌∙◌, ap, subst, arith}
+use Rattle.std.proofs.Common.{◌≡◌, ℕ, ◌==◌, ◌&&◌, if◌then◌else◌, Bool, true, false, List, [], ◌∷◌, ◌++◌, length, refl, sym, ◌∙◌, ap, subst, arith}
 use Rattle.std.specs.Prelude.{Option, Some, OnOk, IfOk, IfSome, Result, Ok, Err}
 use Rattle.std.proofs.lemmas.Bool.Decides.{nat_tests}
 use Rattle.clif_types.specs.declared.types.«Type».{«Type»}
 use Rattle.clif_instructions.specs.declared.instructions.InstructionData.{InstructionData}
 use Rattle.clif_instructions.specs.declared.insert_at.InsertAt.TheVariants.{Back}
-use Rattle.clif_ir.specs.Body.{Body, resolved}
+use Rattle.clif_ir.specs.Body.{Body, follow, resolved}
+use Rattle.clif_nodes.specs.declared.nodes.ValueNode.{ValueNode}
 use Rattle.clif_instructions.specs.Instruction.{destinations}
 use Rattle.clif_tables.specs.Callees.{types_of_results}
 use Rattle.clif_instructions.specs.Edges.{targets}
@@ -31,6 +32,16 @@ remembers_same x b f g s t same_body same_state = record {
   recorded = λ v is. ap (λ r. record_of r x b) same_state ∙ is;
   alike = subst (λ h. StayAlike f h) (sym same_body) (λ u v same. same);
 }
+
+-- the values and the records stay
+pub remembers_valued : (x b : ℕ) (f g : Body) (s t : SsaState) → g.values ≡ f.values → t ≡ s → Remembers x b f s g t
+remembers_valued x b f g s t same_values same_state = record {
+  recorded = λ v is. ap (λ r. record_of r x b) same_state ∙ is;
+  alike = λ u v same. now u ∙ same ∙ sym (now v);
+}
+  where
+    now : (u : ℕ) → resolved g u ≡ resolved f u
+    now u = ap (λ (values : List ValueNode). follow (length values) values u) same_values
 
 -- a block is made
 pub remembers_created : {T E : Type 0} (r : Result T E) (x b : ℕ) (f g : Body) (s t : SsaState) → OnOk r (g ≡ with_block f) → t.records ≡ s.records → OnOk r (Remembers x b f s g t)

@@ -2,7 +2,7 @@
 use Rattle.std.proofs.Common.{◌≡◌, ◌<◌, ◌≤◌, Bool, ℕ, List, [], ◌∷◌, ◌++◌, length, refl, sym, ◌∙◌, ap, subst, arith, inl}
 use Rattle.std.proofs.lemmas.List.{length-map}
 use Rattle.std.specs.Prelude.{map, ltb, slice_get, Option, None, Some, option_map, true, Result, Ok, Err, OnOk}
-use Rattle.std.proofs.lemmas.Bool.{le-ltb, lt-ltb}
+use Rattle.std.proofs.lemmas.Bool.{le-ltb, lt-ltb, ltb-true}
 use Rattle.std.proofs.lemmas.Option.{slice_get-map, slice_get_within}
 use Rattle.clif_types.specs.Signature.{SignatureShape}
 use Rattle.clif_ir.specs.Body.{Body}
@@ -20,6 +20,7 @@ use Rattle.clif_builder.specs.Builder.{is_empty_status, is_filled_status}
 use Rattle.clif_builder.specs.Construction.{IsSealingAll}
 use Rattle.clif_builder.specs.Ledger.{BlockAgrees, IsStructured, LedgerAgrees, block_name, ledger_of}
 use Rattle.clif_builder.specs.StandsFor.{StandsIn}
+use Rattle.clif_builder.proofs.Counted.{counts_on, spends_sealed}
 use Rattle.clif_builder.proofs.LedgerLists.{if-yes, if-no, map-some, named-more, one-named-more}
 use Rattle.clif_builder.proofs.LedgerKept.{Extends, answer-still, answers-after, answers-none, concluded, extends-constructs, keeps-of, places-after, types-kept}
 use Rattle.clif_builder.proofs.LedgerMade.{numbers-kept}
@@ -101,6 +102,9 @@ module _ (calls : List AnsweredCall) (ledger : Ledger) (f g : Body) (c d : Conte
         (keeps_made f.values f.values g.values f c d refl extends.parameters sealing.stay (records_exist agrees.own f c agrees.structured) sealing.tracks
         sealing.makes)
         agrees.tracks;
+    counts =
+        counts_on calls seals_all f c g d
+        (spends_sealed _ _ f c g d all_blocks told (in_order agrees) (λ b is. ltb-true b (length f.blocks) is) sealing extends.block_count variables.0) agrees.counts;
     own = agrees.own;
     structured = structured;
     callers_types = λ k t there.

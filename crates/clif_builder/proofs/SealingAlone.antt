@@ -4,7 +4,6 @@ use Rattle.std.specs.Prelude.{Ok}
 use Rattle.clif_ir.specs.Body.{Body}
 use Rattle.clif_records.specs.Stacks.{no_look_up}
 use Rattle.clif_records.specs.Tables.{pending_of}
-use Rattle.clif_records.specs.Tracking.{Tracked}
 use Rattle.clif_records.specs.declared.side_effects.SideEffects.{SideEffects}
 use Rattle.clif_records.specs.declared.tables.Pending.{Pending}
 use Rattle.clif_ssa.specs.LookUp.{Stage}

@@ -1,13 +1,13 @@
 -- A builder that stands for the calls of a script stands for one call more, once its plain calls were made.
-use Rattle.std.proofs.Common.{◌≡◌, ℕ, List, [], ◌∷◌, ◌++◌, length, ap, refl, subst, sym, ◌∙◌}
-use Rattle.std.specs.Prelude.{IsTrue, fold, true}
+use Rattle.std.proofs.Common.{ℕ, List, [], ◌∷◌, ◌++◌, length, ap, subst, sym, ◌∙◌}
+use Rattle.std.specs.Prelude.{IsTrue, fold}
 use Rattle.std.proofs.lemmas.List.{map-append}
 use Rattle.clif_types.specs.declared.target.PointerWidth.{PointerWidth}
 use Rattle.clif_types.specs.Signature.{SignatureShape}
 use Rattle.clif_ir.specs.Body.{Body}
 use Rattle.clif_meaning.specs.Headline.{MeansTheSame, pointer_bits}
 use Rattle.clif_meaning.specs.Ledger.{Ledger, empty_ledger, ledger_after}
-use Rattle.clif_meaning.specs.Name.{Name, answer_of}
+use Rattle.clif_meaning.specs.Name.{answer_of}
 use Rattle.clif_meaning.specs.Premises.{CallersEdgesMatch}
 use Rattle.clif_meaning.specs.Request.{AnsweredCall, Request, Script, script_of}
 use Rattle.clif_meaning.specs.Typing.{EdgesMatch}

@@ -19,6 +19,7 @@ use Rattle.clif_builder.specs.Context.{ContextState}
 use Rattle.clif_simulation.proofs.Tracking.Steps.{NamesNothing}
 use Rattle.clif_builder.specs.Ledger.{LedgerAgrees, ledger_of}
 use Rattle.clif_builder.specs.StandsFor.{StandsIn}
+use Rattle.clif_builder.proofs.Counted.{leaves_all}
 use Rattle.clif_builder.proofs.LedgerBlocks.{agrees-kept}
 use Rattle.clif_builder.proofs.LedgerKept.{answers-none, answers-one, concluded}
 use Rattle.clif_builder.proofs.Standing.{unchanged_alone}
@@ -31,7 +32,7 @@ module _ (calls : List AnsweredCall) (f : Body) (c : ContextState) (p : Option �
       let call : AnsweredCall = answered (MakeEdge edge) (number ∷ []) in
       let new : Ledger = ledger_with (ledger_of calls) (MakeEdge edge) in
       concluded calls call f c p
-      (agrees-kept calls call (ledger_of calls) new f c c p p (AnEdge edge ∷ []) agrees refl refl refl refl agrees.current agrees.variables (λ b. refl) (λ b. refl) (λ b. refl) (tracks_still calls call f.values c tt agrees.tracks)
+      (agrees-kept calls call (ledger_of calls) new f c c p p (AnEdge edge ∷ []) agrees refl refl refl refl agrees.current agrees.variables (λ b. refl) (λ b. refl) (λ b. refl) (tracks_still calls call f.values c tt agrees.tracks) (leaves_all c)
       agrees.structured (answers-one new f (length calls) (AnEdge edge) number tt tt))
 
   pub table_agrees : (default : Name) (entries : List Name) (number : ℕ) → number ≡ length (ledger_of calls).jump_tables → LedgerAgrees calls (ledger_of calls) f c p
@@ -41,7 +42,7 @@ module _ (calls : List AnsweredCall) (f : Body) (c : ContextState) (p : Option �
       let new : Ledger = ledger_with (ledger_of calls) (MakeJumpTable default entries) in
       let answer : Answered = AJumpTable (length (ledger_of calls).jump_tables) in
       concluded calls call f c p
-      (agrees-kept calls call (ledger_of calls) new f c c p p (answer ∷ []) agrees refl refl refl refl agrees.current agrees.variables (λ b. refl) (λ b. refl) (λ b. refl) (tracks_still calls call f.values c tt agrees.tracks)
+      (agrees-kept calls call (ledger_of calls) new f c c p p (answer ∷ []) agrees refl refl refl refl agrees.current agrees.variables (λ b. refl) (λ b. refl) (λ b. refl) (tracks_still calls call f.values c tt agrees.tracks) (leaves_all c)
       agrees.structured (answers-one new f (length calls) answer number counts tt))
 
   pub exceptions_agree : (signature : ℕ) (normal : Name) (items : List TableItem) (number : ℕ) → number ≡ length (ledger_of calls).exception_tables
@@ -53,7 +54,7 @@ module _ (calls : List AnsweredCall) (f : Body) (c : ContextState) (p : Option �
       let new : Ledger = ledger_with (ledger_of calls) (MakeExceptionTable signature normal items) in
       let answer : Answered = AnExceptionTable (length (ledger_of calls).exception_tables) in
       concluded calls call f c p
-      (agrees-kept calls call (ledger_of calls) new f c c p p (answer ∷ []) agrees refl refl refl refl agrees.current agrees.variables (λ b. refl) (λ b. refl) (λ b. refl) (tracks_still calls call f.values c tt agrees.tracks)
+      (agrees-kept calls call (ledger_of calls) new f c c p p (answer ∷ []) agrees refl refl refl refl agrees.current agrees.variables (λ b. refl) (λ b. refl) (λ b. refl) (tracks_still calls call f.values c tt agrees.tracks) (leaves_all c)
       agrees.structured (answers-one new f (length calls) answer number counts tt))
 
   pub note_agrees : (inside : Bool) (values : List Name) → LedgerAgrees calls (ledger_of calls) f c p
@@ -62,7 +63,7 @@ module _ (calls : List AnsweredCall) (f : Body) (c : ContextState) (p : Option �
       let call : AnsweredCall = answered (Annotate inside values) [] in
       let new : Ledger = ledger_with (ledger_of calls) (Annotate inside values) in
       concluded calls call f c p
-      (agrees-kept calls call (ledger_of calls) new f c c p p [] agrees refl refl refl refl agrees.current agrees.variables (λ b. refl) (λ b. refl) (λ b. refl) (tracks_still calls call f.values c tt agrees.tracks)
+      (agrees-kept calls call (ledger_of calls) new f c c p p [] agrees refl refl refl refl agrees.current agrees.variables (λ b. refl) (λ b. refl) (λ b. refl) (tracks_still calls call f.values c tt agrees.tracks) (leaves_all c)
       agrees.structured (answers-none new f (length calls)))
 
 -- a call that answers no value and adds nothing to the program

@@ -1,7 +1,8 @@
 -- Which variables were used or assigned: what agrees with that, and what it says of records.
-use Rattle.std.proofs.Common.{◌≡◌, ◌<◌, ℕ, zero, suc, Bool, true, false, List, [], ◌∷◌, ◌++◌, length, refl, sym, ◌∙◌, ap, arith, inl, inr}
+use Rattle.std.proofs.Common.{◌≡◌, ◌<◌, ◌≤◌, ℕ, zero, suc, Bool, true, false, List, [], ◌∷◌, ◌++◌, length, refl, sym, ◌∙◌, ap, arith, inl, inr}
 use Rattle.std.specs.Prelude.{◌==◌, ◌||◌, ◌&&◌, is_some, not, map, slice_get, Option, Some, None, if◌then◌else◌}
-use Rattle.std.proofs.lemmas.Bool.{cases_eq, eq-eqb, ne_eqb, or_left, or_right}
+use Rattle.std.proofs.lemmas.Bool.{cases_eq, eq-eqb, false≢true, ne_eqb, or_left, or_right}
+use Rattle.std.proofs.lemmas.Option.{slice_get_within}
 use Rattle.clif_types.specs.EntitySet.{has}
 use Rattle.clif_types.specs.declared.types.LaneType.TheVariants as lane
 use Rattle.clif_types.specs.declared.types.«Type».{«Type»}
@@ -143,16 +144,20 @@ if_here : (ty other : «Type») (test : Bool) → test ≡ true → (if test the
 if_here ty other true is = refl
 if_here ty other false is = absurd (let no_way : ⊥ = cc in no_way)
 
-are_with_type : (c : ContextState) (x : ℕ) (ty : «Type») → has c.touched x ≡ false → AreTypesOf c (with_type c x ty)
-are_with_type c x ty untouched y kind declared touched =
+-- a variable that wasn't declared and touched has any type
+abbrev HasAnyType : ContextState → ℕ → Type 0
+HasAnyType c x = (kind : «Type») → slice_get c.variables x ≡ Some kind → has c.touched x ≡ true → ⊥
+
+are_with_type : (c : ContextState) (x : ℕ) (ty : «Type») → HasAnyType c x → AreTypesOf c (with_type c x ty)
+are_with_type c x ty any y kind declared touched =
     elim (cases_eq y x) [
-      | inl same ↦ let here : has c.touched x ≡ true = ap (has c.touched) (sym same) ∙ touched in let no_way : ⊥ = cc in absurd no_way
+      | inl same ↦ absurd (any kind (ap (slice_get c.variables) (sym same) ∙ declared) (ap (has c.touched) (sym same) ∙ touched))
       | inr other ↦ if_other y x ty (listed_types c.variables y) (y == x) (ne_eqb y x other) ∙ are_listed c y kind declared touched
     ]
 
--- What is recorded for a variable has each type that it may have: so nothing is recorded for one that wasn't touched.
-pub untouched_unused : (own : Own) (f : Body) (c : ContextState) (x : ℕ) → IsStructured own f c → has c.touched x ≡ false → (b : ℕ) → record_of c.ssa x b ≡ None
-untouched_unused own f c x structured untouched b = by (record_of c.ssa x b) refl
+-- What is recorded for a variable has each type that it may have: so nothing is recorded for one that has any.
+any_unused : (own : Own) (f : Body) (c : ContextState) (x : ℕ) → IsStructured own f c → HasAnyType c x → (b : ℕ) → record_of c.ssa x b ≡ None
+any_unused own f c x structured any b = by (record_of c.ssa x b) refl
   where
     typed : (ty : «Type») (v : ℕ) → record_of c.ssa x b ≡ Some v → with_type c x ty x ≡ ty
     typed ty v is = if_here ty (listed_types c.variables x) (x == x) (eq-eqb x x refl)
@@ -160,13 +165,22 @@ untouched_unused own f c x structured untouched b = by (record_of c.ssa x b) ref
     by : (found : Option ℕ) → record_of c.ssa x b ≡ found → record_of c.ssa x b ≡ None
     by None is = is
     by (Some v) is =
-        let one = (structured (with_type c x type.Invalid) (are_with_type c x type.Invalid untouched)).recorded x b v is in
-        let two = (structured (with_type c x (type.Lane lane.I8)) (are_with_type c x (type.Lane lane.I8) untouched)).recorded x b v is in
+        let one = (structured (with_type c x type.Invalid) (are_with_type c x type.Invalid any)).recorded x b v is in
+        let two = (structured (with_type c x (type.Lane lane.I8)) (are_with_type c x (type.Lane lane.I8) any)).recorded x b v is in
         let first : with_type c x type.Invalid x ≡ type.Invalid = typed type.Invalid v is in
         let second : with_type c x (type.Lane lane.I8) x ≡ type.Lane lane.I8 = typed (type.Lane lane.I8) v is in
         let same : type.Invalid ≡ type.Lane lane.I8 = sym first ∙ sym one.1 ∙ two.1 ∙ second in
         let no_way : ⊥ = cc in
         absurd no_way
+
+-- for one that wasn't touched
+pub untouched_unused : (own : Own) (f : Body) (c : ContextState) (x : ℕ) → IsStructured own f c → has c.touched x ≡ false → (b : ℕ) → record_of c.ssa x b ≡ None
+untouched_unused own f c x structured untouched b = any_unused own f c x structured (λ kind declared touched. false≢true (sym untouched ∙ touched)) b
+
+-- or that wasn't declared
+pub undeclared_unused : (own : Own) (f : Body) (c : ContextState) (x : ℕ) → IsStructured own f c → length c.variables ≤ x → (b : ℕ) → record_of c.ssa x b ≡ None
+undeclared_unused own f c x structured past b =
+    any_unused own f c x structured (λ kind declared touched. omega (arith, past, slice_get_within c.variables x kind declared)) b
 
 pub new_unused : (f : Body) (c : ContextState) (x : ℕ) → IsInOrder f c → is_untouched c x ≡ true → (b : ℕ) → record_of c.ssa x b ≡ None
 new_unused f c x order new = untouched_unused order.own f c x order.structured (by (is_some (slice_get c.variables x)) (has c.touched x) new)

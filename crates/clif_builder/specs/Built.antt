@@ -5,7 +5,7 @@ use Rattle.clif_types.specs.declared.error.BuildError.{BuildError}
 use Rattle.clif_types.specs.declared.error.BuildError.TheVariants.{Full, Failed}
 use Rattle.clif_types.specs.declared.types.«Type».{«Type»}
 use Rattle.clif_types.specs.Signature.{SignatureShape}
-use Rattle.clif_ir.specs.Body.{inst_at, value_at}
+use Rattle.clif_ir.specs.Body.{Body, inst_at, value_at}
 use Rattle.clif_instructions.specs.Instruction.{destinations, is_branch, is_terminator, result_type_of, result_types}
 use Rattle.clif_tables.specs.Callees.{count_of_results}
 use Rattle.clif_ir.specs.Changes.{HasNoRoom}
@@ -44,10 +44,13 @@ numbers_with_pair b pair = length b.func.now.insts ∷ pair.0 ∷ pair.1 ∷ []
 abbrev pub HasFullTable : {R : Type 0} → FunctionBuilder R → Type 0
 HasFullTable b = (length b.func.now.insts ≡ 2 ^ 32 - 1) ⊎ (length b.func.now.values ≡ 2 ^ 32 - 1)
 
--- where a table is full the tables of instructions and of values stay as they are
+-- all of the function but its layout stays
+abbrev pub OnlyLaidOut : Body → Body → Type 0
+OnlyLaidOut f g = g ≡ record f { layout = g.layout }
+
+-- where a table is full nothing changes but the layout, in which the current block stands then
 abbrev pub StaysIfFull : {A : Type 0} → {R : Type 0} → FunctionBuilder R → FunctionBuilder R → Result A BuildError → Type 0
-StaysIfFull old new answer =
-    answer ≡ Err Full → (new.func.now.insts ≡ old.func.now.insts) × (new.func.now.values ≡ old.func.now.values)
+StaysIfFull old new answer = answer ≡ Err Full → OnlyLaidOut old.func.now new.func.now
 
 -- An instruction of this shape was to be built at the end of the current block; the answer is its number, or an error.
 pub record Builds {R : Type 0} (old new : FunctionBuilder R) (shape : InstructionData) (ty : «Type») (answer : Result ℕ BuildError) : Type 0 where
@@ -105,6 +108,7 @@ pub record BuildsValue {R : Type 0} (old new : FunctionBuilder R) (shape : Instr
       → StandsFor signature calls old → HasShape calls old.func.now instruction shape ty
       → IfOk answer (λ value. StandsFor signature (after_build calls entries instruction (numbers_with old value)) new)
   pub exists : IfOk answer (λ value. value < length new.func.now.values)
+  pub one_result : count_of_results old.func.now.tables shape ≡ 1
   pub grows : OnOk answer (Grows old.func.now new.func.now)
   pub remembers : (v b : ℕ) → OnOk answer (RemembersIn v b old new)
   pub current : OnOk answer (HasCurrent new)

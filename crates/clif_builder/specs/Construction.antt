@@ -1,11 +1,12 @@
 -- What a use of a variable and a sealing make of a function and of the state of its construction: the contracts of the
 -- crate below, of a call that answers. Source: own, after Braun et al. 2013.
-use Rattle.std.specs.Prelude.{◌≡◌, ◌≢◌, ℕ, ◌==◌, List, [], length, Bool, true, ltb, if◌then◌else◌}
+use Rattle.std.specs.Prelude.{◌≡◌, ◌≢◌, ◌<◌, ℕ, ◌==◌, List, [], length, Bool, true, ltb, if◌then◌else◌}
 use Rattle.clif_types.specs.declared.types.«Type».{«Type»}
 use Rattle.clif_ir.specs.Body.{Body}
 use Rattle.clif_instructions.specs.Members.{stands_in, Once}
 use Rattle.clif_paths.specs.Blocks.{Blocks}
 use Rattle.clif_ssa.specs.Own.{Own}
+use Rattle.clif_ssa.specs.Counted.{CountsFor, WaitsBelow}
 use Rattle.clif_ssa.specs.Ssa.{SsaState, RecordsStay, SamePredecessors, SameRecords, SealedStays, Seals, sealed_of}
 use Rattle.clif_ssa.specs.Sound.{Keeps, KeepsAndKnows, SparesIfEntry}
 use Rattle.clif_ssa.specs.SoundLaws.{DescribesSoundly}
@@ -30,6 +31,7 @@ pub record IsUse (f : Body) (s : SsaState) (g : Body) (t : SsaState) (variable :
   pub recorded : HasRecordOf g t variable block value
   pub tracks : TracksParameters (length f.values) s t
   pub makes : MakesInto f.values g.values s t
+  pub counted : CountsFor (◌<◌ variable) 0 f s 0 g t
   pub structured : (types : VariableTypes) (own : Own) → ty ≡ types variable → Structured types own f s []
       → Structured types own g t [] × HasType g value ty
   pub keeps : (own : Own) (tables : Blocks) → DescribesSoundly own f s tables → KeepsAndKnows own tables g t block variable value
@@ -44,6 +46,7 @@ pub record IsSealingOf (f : Body) (s : SsaState) (g : Body) (t : SsaState) (seal
   pub stay : RecordsStay s t
   pub tracks : TracksParameters (length f.values) s t
   pub makes : MakesInto f.values g.values s t
+  pub counted : ((b : ℕ) → seals b ≡ true → b < length f.blocks) → CountsFor (λ variables. WaitsBelow variables s) 0 f s 0 g t
   pub remembers : (x b : ℕ) → Remembers x b f s g t
   pub structured : (types : VariableTypes) (own : Own) → Structured types own f s [] → Structured types own g t []
   pub keeps : (own : Own) (tables : Blocks) → ((b : ℕ) → seals b ≡ true → SparesIfEntry f s b) → DescribesSoundly own f s tables → Keeps own tables g t

@@ -36,6 +36,7 @@ use Rattle.clif_builder.specs.Context.{ContextState, status_of}
 pub use Rattle.clif_builder.specs.Order.{AloneUnlessBegun, AreTypesOf, IsBegun, IsEnded, IsStructured}
 use Rattle.clif_builder.specs.Builder.{is_empty_status, is_filled_status}
 use Rattle.clif_builder.specs.Recorded.{RecordsExactly}
+use Rattle.clif_builder.specs.Counted.{CountsCalls}
 use Rattle.clif_builder.specs.Tracking.{IsUntracked}
 
 -- the ledger of answered calls
@@ -198,6 +199,8 @@ pub record LedgerAgrees (calls : List AnsweredCall) (ledger : Ledger) (f : Body)
   pub tables : ledger.tables ≡ tables_of_calls f.tables
   -- what is asked for of stack maps
   pub tracks : TracksAgree calls f.values c
+  -- how many values and instructions there are
+  pub counts : CountsCalls calls f c
   -- what the caller made, and beside it parameters, edges and records in order
   pub own : Own
   pub structured : IsStructured own f c

@@ -10,11 +10,16 @@ pub mod Labels
 pub mod Tracking
 pub mod Recorded
 pub mod Marks
+pub mod Counted
 pub mod Ledger
 pub mod Growth
+pub mod GoesOn
 pub mod Keeping
 pub mod StandsFor
+pub mod Uses
+pub mod Seals
 pub mod Built
+pub mod Adding
 pub mod Calls
 pub mod Attempts
 pub mod Entries

@@ -10,6 +10,8 @@ ghost use Rattle.clif_ssa.specs.Pools.{MayPool, UseIsFull};
 ghost use Rattle.clif_ssa.specs.Ssa.{Records, SealedStays};
 ghost use Rattle.clif_types.specs.Signature.{SignatureShape};
 ghost use Rattle.clif_types.specs.declared.types.«Type».{«Type»};
+ghost use Rattle.clif_builder.specs.GoesOn.{GoesOn, GoesOnWhere, IsUnassigned};
+ghost use Rattle.clif_builder.specs.Uses.{UsesVariable, value_given};
 ghost use Rattle.clif_builder.specs.Attempts.{IsMistyped, RefusesAssignment, RefusesUse, use_told};
 ghost use Rattle.clif_builder.specs.Builder.{HasCurrent, Uses};
 ghost use Rattle.clif_builder.specs.Calls.{IsCall, IsTold, answered};
@@ -46,44 +48,16 @@ impl<'a, R> FunctionBuilder<'a, R> {
             (variable < length self.old.ctx.now.parts.variables)) }
         ensures refused { IfOk result (λ answer. IfErr answer
             (RefusesUse self.old self.new variable)) }
-        ensures uses { IfSome self.old.position (λ block. IfOk result (λ answer. IfOk answer
-            (Uses self.old self.new variable block))) }
-        ensures typed { IfOk result (λ answer. IfOk answer (λ v.
-            slice_get self.old.ctx.now.parts.variables variable
-            ≡ Some (value_at self.new.func.now v).ty)) }
-        ensures seals { OnOk result (SealedStays self.old.ctx.now.parts.ssa
-            self.new.ctx.now.parts.ssa) }
-        ensures is_use { (ty : «Type») → slice_get self.old.ctx.now.parts.variables variable ≡ Some
-            ty → IfSome self.old.position (λ block. IfOk result (λ answer. IfOk answer (λ value.
-            (told : List ℕ) × IsUse (inserted_in self.old.func.now block) self.old.ctx.now.parts.ssa
-            self.new.func.now self.new.ctx.now.parts.ssa variable ty block value told
-            × Begins self.old.ctx.now.parts self.new.ctx.now.parts (block ∷ told)))) }
-        ensures status { (calls : List AnsweredCall) → AgreesWithLedger calls self.old
-            → IfSome self.old.position (λ block. OnOk result
-            (SetsStatus self.old.ctx.now.parts self.new.ctx.now.parts block (begun
-            (status_of self.old.ctx.now.parts block)))) }
-        ensures variables { self.new.ctx.now.parts.variables ≡ self.old.ctx.now.parts.variables }
-        ensures pools { (ty : «Type») → slice_get self.old.ctx.now.parts.variables variable ≡ Some
-            ty → MayPool ty self.old.func.now.tables self.new.func.now.tables }
-        ensures full { (ty : «Type») → slice_get self.old.ctx.now.parts.variables variable ≡ Some ty
-            → result ≡ Err BuildError.Full → UseIsFull ty self.new.func.now }
         ensures full_declared { result ≡ Err BuildError.Full
             → variable < length self.old.ctx.now.parts.variables }
-        ensures constructs { IfSome self.old.position (λ block. result ≡ Err BuildError.Full →
-            OnlyConstructs (inserted_in self.old.func.now block) self.new.func.now) }
         ensures told { IsTold self.old self.new result
             (λ _. Unit {0})
             (use_told variable) }
         ensures parameters { (signature : SignatureShape) (calls : List AnsweredCall)
             → StandsFor signature calls self.new → KeepsNoParameter calls self.new.func.now
             self.new.ctx.now.parts.ssa }
-        ensures exists { IfOk result (λ answer. IfOk answer
-            (λ v. v < length self.new.func.now.values)) }
-        ensures grows { OnOk result (Grows self.old.func.now self.new.func.now) }
-        ensures remembers { (x b : ℕ) → OnOk result (RemembersIn x b self.old self.new) }
-        ensures has_record { IfSome self.old.position (λ block. IfOk result (λ answer. IfOk answer
-            (HasRecordIn self.new variable block))) }
-        ensures current { OnOk result (HasCurrent self.new) }
+        ensures goes_on { GoesOn self.old self.new result }
+        ensures used { UsesVariable value_given variable self.old self.new result }
     {
         if !self.is_declared(variable) {
             self.ensure_inserted_block()?;
@@ -130,10 +104,7 @@ impl<'a, R> FunctionBuilder<'a, R> {
         ensures told { (name : Name) → IfOk result (λ answer. IsTold self.old self.new answer
             (λ calls. NamesValue calls name value)
             (λ _. answered (DefVar variable name) [])) }
-        ensures grows { OnOk result (Grows self.old.func.now self.new.func.now) }
-        ensures remembers { (x b : ℕ) → (x ≡ variable → self.old.position ≡ Some b → ⊥)
-            → OnOk result (RemembersIn x b self.old self.new) }
-        ensures current { OnOk result (HasCurrent self.new) }
+        ensures goes_on { GoesOnWhere (IsUnassigned self.old variable) self.old self.new result }
     {
         if self.failed {
             return Err(BuildError::Failed);

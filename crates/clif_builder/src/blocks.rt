@@ -1,5 +1,6 @@
 //! The builder's calls that mark blocks, bring them into the layout and give them parameters.
 ghost use Rattle.std.specs.Prelude.{◌≡◌, ◌≢◌, ◌<◌, ◌+◌, ◌-◌, ◌^◌, ◌++◌, ◌∷◌, [], ℕ, List, OnOk, IfOk, IfSome, is_err, length, slice_index, EachIndex};
+ghost use Rattle.clif_builder.specs.GoesOn.{GoesOn, succeeded};
 ghost use Rattle.clif_builder.specs.Context.{status_of, begun, SetsStatus};
 ghost use Rattle.clif_ssa.specs.Ssa.{predecessors_of};
 ghost use Rattle.clif_simulation.specs.Carries.{with_params};
@@ -54,9 +55,7 @@ impl<'a, R> FunctionBuilder<'a, R> {
         ensures told { (name behind : Name) → IsTold self.old self.new result
             (λ calls. NamesBlock calls name block × NamesBlock calls behind after)
             (λ _. answered (InsertBlockAfter name behind) []) }
-        ensures grows { OnOk result (Grows self.old.func.now self.new.func.now) }
-        ensures remembers { (x b : ℕ) → OnOk result (RemembersIn x b self.old self.new) }
-        ensures current { HasCurrent self.old → OnOk result (HasCurrent self.new) }
+        ensures goes_on { GoesOn self.old self.new result }
     {
         if self.failed {
             return Err(BuildError::Failed);
@@ -81,9 +80,7 @@ impl<'a, R> FunctionBuilder<'a, R> {
         ensures stands { (signature : SignatureShape) (calls : List AnsweredCall) (name : Name)
             → StandsFor signature calls self.old → NamesBlock calls name block
             → StandsFor signature (calls ++ answered (SetColdBlock name) [] ∷ []) self.new }
-        ensures grows { Grows self.old.func.now self.new.func.now }
-        ensures remembers { (x b : ℕ) → RemembersIn x b self.old self.new }
-        ensures current { HasCurrent self.old → HasCurrent self.new }
+        ensures goes_on { GoesOn self.old self.new succeeded }
     {
         self.func.set_cold_block(block);
     }
@@ -111,9 +108,7 @@ impl<'a, R> FunctionBuilder<'a, R> {
         ensures told { IsTold self.old self.new result
             (λ _. Unit {0})
             (λ _. answered EnsureInsertedBlock []) }
-        ensures grows { OnOk result (Grows self.old.func.now self.new.func.now) }
-        ensures remembers { (x b : ℕ) → OnOk result (RemembersIn x b self.old self.new) }
-        ensures current { OnOk result (HasCurrent self.new) }
+        ensures goes_on { GoesOn self.old self.new result }
     {
         if self.failed {
             return Err(BuildError::Failed);
@@ -148,9 +143,7 @@ impl<'a, R> FunctionBuilder<'a, R> {
             (λ calls. NamesBlock calls name block)
             (λ value. answered (AppendBlockParams name (ty ∷ [])) (value ∷ [])) }
         ensures exists { IfOk result (λ value. value < length self.new.func.now.values) }
-        ensures grows { OnOk result (Grows self.old.func.now self.new.func.now) }
-        ensures remembers { (x b : ℕ) → OnOk result (RemembersIn x b self.old self.new) }
-        ensures current { HasCurrent self.old → OnOk result (HasCurrent self.new) }
+        ensures goes_on { GoesOn self.old self.new result }
     {
         if self.failed {
             return Err(BuildError::Failed);
@@ -188,9 +181,7 @@ impl<'a, R> FunctionBuilder<'a, R> {
         ensures told { (name : Name) → IsTold self.old self.new result
             (λ calls. NamesBlock calls name block)
             (λ _. appended_params self.old name) }
-        ensures grows { OnOk result (Grows self.old.func.now self.new.func.now) }
-        ensures remembers { (x b : ℕ) → OnOk result (RemembersIn x b self.old self.new) }
-        ensures current { HasCurrent self.old → OnOk result (HasCurrent self.new) }
+        ensures goes_on { GoesOn self.old self.new result }
     {
         if self.failed {
             return Err(BuildError::Failed);
@@ -224,9 +215,7 @@ impl<'a, R> FunctionBuilder<'a, R> {
         ensures told { (name : Name) → IsTold self.old self.new result
             (λ calls. NamesBlock calls name block)
             (λ _. appended_returns self.old name) }
-        ensures grows { OnOk result (Grows self.old.func.now self.new.func.now) }
-        ensures remembers { (x b : ℕ) → OnOk result (RemembersIn x b self.old self.new) }
-        ensures current { HasCurrent self.old → OnOk result (HasCurrent self.new) }
+        ensures goes_on { GoesOn self.old self.new result }
     {
         if self.failed {
             return Err(BuildError::Failed);

@@ -1,5 +1,6 @@
 //! The builder's call that changes where a branch leads.
 ghost use Rattle.std.specs.Prelude.{◌≡◌, ◌≢◌, ◌<◌, ◌++◌, ◌∷◌, [], ℕ, List, OnOk, OnErr, Err, IsTrue, ◌↔◌, is_err, length, false};
+ghost use Rattle.clif_builder.specs.GoesOn.{GoesOn};
 ghost use Rattle.clif_builder.specs.Growth.{Grows, RemembersIn};
 ghost use Rattle.clif_builder.specs.Calls.{IsCall, answered};
 ghost use Rattle.clif_builder.specs.Builder.{HasCurrent};
@@ -58,9 +59,7 @@ impl<'a, R> FunctionBuilder<'a, R> {
             → NamesInstruction calls branch inst → NamesBlock calls from old_block
             → NamesBlock calls to new_block → OnOk result (StandsFor signature (calls ++ answered
             (ChangeJumpDestination branch from to) [] ∷ []) self.new) }
-        ensures grows { OnOk result (Grows self.old.func.now self.new.func.now) }
-        ensures remembers { (x b : ℕ) → OnOk result (RemembersIn x b self.old self.new) }
-        ensures current { HasCurrent self.old → OnOk result (HasCurrent self.new) }
+        ensures goes_on { GoesOn self.old self.new result }
     {
         if self.failed {
             return Err(BuildError::Failed);

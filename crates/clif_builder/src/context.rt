@@ -151,6 +151,7 @@ impl ContextParts {
     ghost use Rattle.clif_ssa.specs.Pools.{types_of, MayPool, MayPoolAll, MayPoolWaiting, SealingIsFull, UseIsFull, WaitsWithType};
     ghost use Rattle.clif_ssa.specs.Structure.{LooksOnce};
     ghost use Rattle.clif_ssa.specs.Constructs.{OnlyConstructs};
+    ghost use Rattle.clif_ssa.specs.Counted.{StepCounts, WaitsBelow};
     ghost use Rattle.clif_records.specs.Tables.{is_yes, pending_of};
 
     /// Nothing is kept yet.
@@ -356,6 +357,8 @@ impl ContextParts {
         ensures variables { self.new.variables ≡ self.old.variables }
         ensures touches { OnOk result (TouchesVariable self.old self.new variable) }
         ensures constructs { OnlyConstructs func.old func.new }
+        ensures counts { StepCounts (◌<◌ variable) 0 func.old self.old.ssa func.new self.new.ssa
+            result }
         ensures pools { MayPool ty func.old.tables func.new.tables }
         ensures full { result ≡ Err BuildError.Full → UseIsFull ty func.new }
         ensures never_failed { result ≢ Err BuildError.Failed }
@@ -388,11 +391,16 @@ impl ContextParts {
         ensures stay { RecordsStay self.old.ssa self.new.ssa }
         ensures variables { SameVariables self.old self.new }
         ensures constructs { OnlyConstructs func.old func.new }
+        ensures counts { block < length func.old.blocks → StepCounts
+            (λ variables. WaitsBelow variables self.old.ssa) 0 func.old self.old.ssa func.new
+            self.new.ssa result }
         ensures pools { MayPoolAll (types_of func.old (pending_of
             (sealed_of self.old.ssa block))) func.old.tables func.new.tables }
         ensures full { result ≡ Err BuildError.Full
             → SealingIsFull (Contains (types_of func.old (pending_of
             (sealed_of self.old.ssa block)))) func.new }
+        ensures never_full { pending_of (sealed_of self.old.ssa block) ≡ []
+            → result ≢ Err BuildError.Full }
         ensures never_failed { result ≢ Err BuildError.Failed }
     {
         let side_effects = self.ssa.seal_block(block, func)?;
@@ -412,6 +420,8 @@ impl ContextParts {
         ensures stay { RecordsStay self.old.ssa self.new.ssa }
         ensures variables { SameVariables self.old self.new }
         ensures constructs { OnlyConstructs func.old func.new }
+        ensures counts { StepCounts (λ variables. WaitsBelow variables self.old.ssa) 0 func.old
+            self.old.ssa func.new self.new.ssa result }
         ensures pools { MayPoolWaiting func.old self.old.ssa func.new.tables }
         ensures full { result ≡ Err BuildError.Full
             → SealingIsFull (WaitsWithType func.old self.old.ssa) func.new }

@@ -1,6 +1,10 @@
 //! The builder of a function.
 ghost use Rattle.std.specs.Prelude.{◌≡◌, ◌≢◌, ◌<◌, ◌-◌, ◌^◌, ◌+◌, ◌++◌, ◌∷◌, [], ◌==◌, ℕ, List, IsTrue, ◌↔◌, option_map, OnOk, OnErr, IfOk, IfSome, IsSome, is_err, Some, None, true, false, length, slice_index, slice_get, EachIndex, Contains};
+ghost use Rattle.clif_builder.specs.GoesOn.{GoesOn, GoesOnWhere, IsUnassigned, succeeded};
+ghost use Rattle.clif_builder.specs.Uses.{UsesVariable};
+ghost use Rattle.clif_builder.specs.Seals.{SealingLeaves, SealsBlock};
 ghost use Rattle.clif_builder.specs.Clear.{IsClear};
+ghost use Rattle.clif_ssa.specs.Counted.{StepCounts};
 ghost use Rattle.clif_builder.specs.Context.{Begins, IsFresh, SameVariables, SetsStatus, TouchesVariable, begun, status_of};
 ghost use Rattle.clif_builder.specs.Growth.{Grows, HasRecordIn, RemembersIn};
 ghost use Rattle.clif_builder.specs.Construction.{IsUse, IsSealing, IsSealingAll, SealsAlone, SealsAtMost};
@@ -83,8 +87,7 @@ impl<'a> FunctionBuilder<'a> {
             → AgreesWithLedger calls self.new }
         ensures stands { (signature : SignatureShape) (calls : List AnsweredCall)
             → StandsFor signature calls self.old → StandsFor signature calls self.new }
-        ensures remembers { (x b : ℕ) → RemembersIn x b self.old self.new }
-        ensures current { HasCurrent self.old → HasCurrent self.new }
+        ensures goes_on { GoesOn self.old self.new succeeded }
     {
         self.ctx.region = Some(Callback::new(ask));
     }
@@ -211,8 +214,7 @@ impl<'a, R> FunctionBuilder<'a, R> {
             → AgreesWithLedger calls self.new }
         ensures stands { (signature : SignatureShape) (calls : List AnsweredCall)
             → StandsFor signature calls self.old → StandsFor signature calls self.new }
-        ensures remembers { (x b : ℕ) → RemembersIn x b self.old self.new }
-        ensures current { HasCurrent self.old → HasCurrent self.new }
+        ensures goes_on { GoesOn self.old self.new succeeded }
     {
         self.srcloc = srcloc;
     }
@@ -253,9 +255,7 @@ impl<'a, R> FunctionBuilder<'a, R> {
             (λ block. answered CreateBlock (block ∷ [])) }
         ensures known { IfOk result (λ b. b < length self.new.ctx.now.parts.ssa.blocks) }
         ensures exists { IfOk result (λ b. b < length self.new.func.now.blocks) }
-        ensures grows { OnOk result (Grows self.old.func.now self.new.func.now) }
-        ensures remembers { (x b : ℕ) → OnOk result (RemembersIn x b self.old self.new) }
-        ensures current { HasCurrent self.old → OnOk result (HasCurrent self.new) }
+        ensures goes_on { GoesOn self.old self.new result }
     {
         if self.failed {
             return Err(BuildError::Failed);
@@ -285,31 +285,14 @@ impl<'a, R> FunctionBuilder<'a, R> {
         requires exists { block < length self.old.func.now.blocks }
         requires unsealed { is_yes (sealed_of self.old.ctx.now.parts.ssa block) ≡ false }
         ensures call { IsCall self.old self.new result }
-        ensures function { predecessors_of self.old.ctx.now.parts.ssa block ≡ []
-            → OnOk result (self.new.func.now ≡ completed self.old.func.now (pending_of
-            (sealed_of self.old.ctx.now.parts.ssa block))) }
-        ensures is_sealing { OnOk result ((told : List ℕ)
-            × IsSealing self.old.func.now self.old.ctx.now.parts.ssa self.new.func.now
-            self.new.ctx.now.parts.ssa block told × Begins self.old.ctx.now.parts
-            self.new.ctx.now.parts told) }
-        ensures alone { pending_of (sealed_of self.old.ctx.now.parts.ssa block) ≡ []
-            → OnOk result (SealsAlone self.old.func.now self.old.ctx.now.parts.ssa
-            self.new.func.now self.new.ctx.now.parts.ssa block) }
-        ensures sealed { predecessors_of self.old.ctx.now.parts.ssa block ≡ []
-            → OnOk result (Seals self.old.ctx.now.parts.ssa self.new.ctx.now.parts.ssa block) }
-        ensures others { OnOk result (SealsAtMost self.old.ctx.now.parts.ssa
-            self.new.ctx.now.parts.ssa block) }
-        ensures records { predecessors_of self.old.ctx.now.parts.ssa block ≡ []
-            → SameRecords self.old.ctx.now.parts.ssa self.new.ctx.now.parts.ssa }
-        ensures stay { RecordsStay self.old.ctx.now.parts.ssa self.new.ctx.now.parts.ssa }
-        ensures variables { self.new.ctx.now.parts.variables ≡ self.old.ctx.now.parts.variables }
         ensures pools { MayPoolAll (types_of self.old.func.now (pending_of
             (sealed_of self.old.ctx.now.parts.ssa block))) self.old.func.now.tables
             self.new.func.now.tables }
         ensures full { result ≡ Err BuildError.Full
             → SealingIsFull (Contains (types_of self.old.func.now (pending_of
             (sealed_of self.old.ctx.now.parts.ssa block)))) self.new.func.now }
-        ensures constructs { OnlyConstructs self.old.func.now self.new.func.now }
+        ensures never_full { pending_of (sealed_of self.old.ctx.now.parts.ssa block) ≡ []
+            → result ≢ Err BuildError.Full }
         ensures told { (name : Name) → IsTold self.old self.new result
             (λ calls. NamesBlock calls name block)
             (λ _. answered (SealBlock name) []) }
@@ -319,9 +302,9 @@ impl<'a, R> FunctionBuilder<'a, R> {
         ensures edges_match { (signature : SignatureShape) (calls : List AnsweredCall)
             → StandsFor signature calls self.new → NoneWaits self.new.ctx.now.parts.ssa
             → CallersEdgesMatch (script_of calls) → EdgesMatch (view_of self.new.func.now) }
-        ensures grows { OnOk result (Grows self.old.func.now self.new.func.now) }
-        ensures remembers { (x b : ℕ) → OnOk result (RemembersIn x b self.old self.new) }
-        ensures current { HasCurrent self.old → OnOk result (HasCurrent self.new) }
+        ensures goes_on { GoesOn self.old self.new result }
+        ensures seals { SealsBlock block self.old self.new result }
+        ensures leaves { SealingLeaves self.old self.new result }
     {
         if self.failed {
             return Err(BuildError::Failed);
@@ -349,14 +332,11 @@ impl<'a, R> FunctionBuilder<'a, R> {
             × IsSealingAll self.old.func.now self.old.ctx.now.parts.ssa self.new.func.now
             self.new.ctx.now.parts.ssa told × Begins self.old.ctx.now.parts self.new.ctx.now.parts
             told) }
-        ensures stay { RecordsStay self.old.ctx.now.parts.ssa self.new.ctx.now.parts.ssa }
-        ensures variables { self.new.ctx.now.parts.variables ≡ self.old.ctx.now.parts.variables }
         ensures pools { MayPoolWaiting self.old.func.now self.old.ctx.now.parts.ssa
             self.new.func.now.tables }
         ensures full { result ≡ Err BuildError.Full
             → SealingIsFull (WaitsWithType self.old.func.now self.old.ctx.now.parts.ssa)
             self.new.func.now }
-        ensures constructs { OnlyConstructs self.old.func.now self.new.func.now }
         ensures told { IsTold self.old self.new result
             (λ _. Unit {0})
             (λ _. answered SealAllBlocks []) }
@@ -366,9 +346,8 @@ impl<'a, R> FunctionBuilder<'a, R> {
         ensures edges_match { (signature : SignatureShape) (calls : List AnsweredCall)
             → StandsFor signature calls self.new → CallersEdgesMatch (script_of calls)
             → OnOk result (EdgesMatch (view_of self.new.func.now)) }
-        ensures grows { OnOk result (Grows self.old.func.now self.new.func.now) }
-        ensures remembers { (x b : ℕ) → OnOk result (RemembersIn x b self.old self.new) }
-        ensures current { HasCurrent self.old → OnOk result (HasCurrent self.new) }
+        ensures goes_on { GoesOn self.old self.new result }
+        ensures leaves { SealingLeaves self.old self.new result }
     {
         if self.failed {
             return Err(BuildError::Failed);
@@ -402,9 +381,7 @@ impl<'a, R> FunctionBuilder<'a, R> {
         ensures told { IsTold self.old self.new result
             (λ _. Unit {0})
             (λ variable. answered (DeclareVar ty) (variable ∷ [])) }
-        ensures grows { OnOk result (Grows self.old.func.now self.new.func.now) }
-        ensures remembers { (x b : ℕ) → OnOk result (RemembersIn x b self.old self.new) }
-        ensures current { HasCurrent self.old → OnOk result (HasCurrent self.new) }
+        ensures goes_on { GoesOn self.old self.new result }
     {
         if self.failed {
             return Err(BuildError::Failed);
@@ -443,10 +420,7 @@ impl<'a, R> FunctionBuilder<'a, R> {
         ensures told { (name : Name) → IsTold self.old self.new result
             (λ calls. NamesValue calls name value)
             (λ _. answered (DefVar variable name) []) }
-        ensures grows { OnOk result (Grows self.old.func.now self.new.func.now) }
-        ensures remembers { (x b : ℕ) → (x ≡ variable → self.old.position ≡ Some b → ⊥)
-            → OnOk result (RemembersIn x b self.old self.new) }
-        ensures current { OnOk result (HasCurrent self.new) }
+        ensures goes_on { GoesOnWhere (IsUnassigned self.old variable) self.old self.new result }
     {
         if self.failed {
             return Err(BuildError::Failed);
@@ -486,41 +460,14 @@ impl<'a, R> FunctionBuilder<'a, R> {
         requires current { HasCurrent self.old }
         requires declared { variable < length self.old.ctx.now.parts.variables }
         ensures call { IsCall self.old self.new result }
-        ensures uses { IfSome self.old.position (λ block. IfOk result
-            (Uses self.old self.new variable block)) }
-        ensures typed { IfOk result (λ v.
-            slice_get self.old.ctx.now.parts.variables variable
-            ≡ Some (value_at self.new.func.now v).ty) }
-        ensures seals { OnOk result (SealedStays self.old.ctx.now.parts.ssa
-            self.new.ctx.now.parts.ssa) }
-        ensures is_use { (ty : «Type») → slice_get self.old.ctx.now.parts.variables variable ≡ Some
-            ty → IfSome self.old.position (λ block. IfOk result (λ value. (told : List ℕ)
-            × IsUse (inserted_in self.old.func.now block) self.old.ctx.now.parts.ssa
-            self.new.func.now self.new.ctx.now.parts.ssa variable ty block value told
-            × Begins self.old.ctx.now.parts self.new.ctx.now.parts (block ∷ told))) }
-        ensures status { (calls : List AnsweredCall) → AgreesWithLedger calls self.old
-            → IfSome self.old.position (λ block. OnOk result
-            (SetsStatus self.old.ctx.now.parts self.new.ctx.now.parts block (begun
-            (status_of self.old.ctx.now.parts block)))) }
-        ensures variables { self.new.ctx.now.parts.variables ≡ self.old.ctx.now.parts.variables }
-        ensures pools { (ty : «Type») → slice_get self.old.ctx.now.parts.variables variable ≡ Some
-            ty → MayPool ty self.old.func.now.tables self.new.func.now.tables }
-        ensures full { (ty : «Type») → slice_get self.old.ctx.now.parts.variables variable ≡ Some ty
-            → result ≡ Err BuildError.Full → UseIsFull ty self.new.func.now }
-        ensures constructs { IfSome self.old.position (λ block. result ≡ Err BuildError.Full →
-            OnlyConstructs (inserted_in self.old.func.now block) self.new.func.now) }
         ensures told { IsTold self.old self.new result
             (λ _. Unit {0})
             (λ value. answered (UseVar variable) (value ∷ [])) }
         ensures parameters { (signature : SignatureShape) (calls : List AnsweredCall)
             → StandsFor signature calls self.new → KeepsNoParameter calls self.new.func.now
             self.new.ctx.now.parts.ssa }
-        ensures exists { IfOk result (λ v. v < length self.new.func.now.values) }
-        ensures grows { OnOk result (Grows self.old.func.now self.new.func.now) }
-        ensures remembers { (x b : ℕ) → OnOk result (RemembersIn x b self.old self.new) }
-        ensures has_record { IfSome self.old.position (λ block. IfOk result
-            (HasRecordIn self.new variable block)) }
-        ensures current { OnOk result (HasCurrent self.new) }
+        ensures goes_on { GoesOn self.old self.new result }
+        ensures used { UsesVariable Some variable self.old self.new result }
     {
         if self.failed {
             return Err(BuildError::Failed);
@@ -587,6 +534,7 @@ fn use_variable(
     ensures full { result ≡ Err BuildError.Full → UseIsFull ty func.new }
     ensures constructs { result ≡ Err BuildError.Full →
         OnlyConstructs (inserted_in func.old block) func.new }
+    ensures counts { StepCounts (◌<◌ variable) 0 func.old ctx.old.ssa func.new ctx.new.ssa result }
     ensures never_failed { result ≢ Err BuildError.Failed }
 {
     begin_block(func, ctx, block)?;

@@ -1,5 +1,6 @@
 //! How a builder makes instructions at the end of its current block.
 ghost use Rattle.std.specs.Prelude.{◌≡◌, ◌≢◌, ◌<◌, ◌∷◌, [], IfOk, Err, false, length, slice_index, EachIndex, All};
+ghost use Rattle.std.proofs.Common.{refl};
 ghost use Rattle.std.proofs.Math.Nat.{lt_of_lt_of_le};
 ghost use Rattle.clif_ir.specs.Body.{value_at};
 ghost use Rattle.clif_ir.specs.Changes.{HasNoRoom};
@@ -10,7 +11,7 @@ ghost use Rattle.clif_instructions.specs.Edges.{targets};
 ghost use Rattle.clif_ssa.specs.Ssa.{NamesExist};
 ghost use Rattle.clif_ssa.specs.Structure.{LooksOnce};
 ghost use Rattle.clif_builder.specs.Builder.{HasCurrent, CanLead, CanLeadIn, AppendsIn};
-ghost use Rattle.clif_builder.specs.Built.{Builds, BuildsPair, BuildsValue};
+ghost use Rattle.clif_builder.specs.Built.{Builds, BuildsPair, BuildsValue, OnlyLaidOut};
 ghost use Rattle.clif_builder.specs.Construction.{IsDeclared};
 ghost use Rattle.clif_builder.specs.Context.{SameVariables};
 ghost use Rattle.clif_builder.specs.Entries.{MayServe, MayServeTry, PoolsConstant, TakesExceptionTable, TakesJumpTable};
@@ -58,6 +59,20 @@ impl<'a> FunctionBuilder<'a> {
 }
 
 impl<'a, R> InstBuilderBase for FunctionBuilder<'a, R> {
+    type ValueAnswer = Result<Value, BuildError>;
+
+    type PairAnswer = Result<(Value, Value), BuildError>;
+
+    type InstAnswer = Result<Inst, BuildError>;
+
+    ghost asks = { λ condition. condition };
+
+    ghost answer_value = { λ made. made };
+
+    ghost answer_inst = { λ made. made };
+
+    ghost value_in = { λ answer. answer };
+
     ghost can_build = { HasCurrent };
 
     ghost has_value = { λ b value. value < length b.func.now.values };
@@ -87,6 +102,8 @@ impl<'a, R> InstBuilderBase for FunctionBuilder<'a, R> {
 
     ghost builds_pair = { λ old new shape x answer.
         BuildsPair old new shape (value_at old.func.now x).ty answer };
+
+    ghost answer_is = { λ answer. refl };
 
     ghost like_is_value = { λ old new shape x answer built. built };
 
@@ -124,6 +141,24 @@ impl<'a, R> InstBuilderBase for FunctionBuilder<'a, R> {
 
     ghost exception_builds = { λ old new table exception taken current.
         taken.sets.current current };
+
+    fn answer_value(made: Result<Value, BuildError>) -> Result<Value, BuildError>
+        ensures { result ≡ made }
+    {
+        made
+    }
+
+    fn answer_inst(made: Result<Inst, BuildError>) -> Result<Inst, BuildError>
+        ensures { result ≡ made }
+    {
+        made
+    }
+
+    fn value_in(answer: Result<Value, BuildError>) -> Result<Value, BuildError>
+        ensures { result ≡ answer }
+    {
+        answer
+    }
 
     fn value_type(&self, value: Value) -> Type {
         self.func.value_type(value)
@@ -250,8 +285,7 @@ fn append(
     ensures variables { SameVariables ctx.old ctx.new }
     ensures full { result ≡ Err BuildError.Full → HasNoRoom func.old
         (count_of_results func.old.tables shape) }
-    ensures full_stays { result ≡ Err BuildError.Full
-        → (func.new.insts ≡ func.old.insts) × (func.new.values ≡ func.old.values) }
+    ensures full_stays { result ≡ Err BuildError.Full → OnlyLaidOut func.old func.new }
     ensures never_failed { result ≢ Err BuildError.Failed }
 {
     begin_block(func, ctx, block)?;

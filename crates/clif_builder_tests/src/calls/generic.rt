@@ -11,11 +11,11 @@ pub fn there_and_back<B: InstBuilder>(builder: &mut B, x: Value) -> Result<Value
     requires current { B.can_build builder.old }
     requires exists { B.has_value builder.old x }
     ensures built { IfOk result (λ value. (between : _) × (sum : _)
-        × B.builds_like builder.old between (binary BinaryOpcode.Iadd x x) x (Ok sum)
-        × B.builds_like between builder.new (binary BinaryOpcode.Isub sum x) sum (Ok value)) }
+        × B.builds_like builder.old between (binary BinaryOpcode.Iadd x x) x (B.answer_value (Ok sum))
+        × B.builds_like between builder.new (binary BinaryOpcode.Isub sum x) sum (B.answer_value (Ok value))) }
     ensures goes_on { IfOk result (λ value.
         B.can_build builder.new × B.has_value builder.new value) }
 {
-    let sum = builder.iadd(x, x)?;
-    builder.isub(sum, x)
+    let sum = B::value_in(builder.iadd(x, x))?;
+    B::value_in(builder.isub(sum, x))
 }

@@ -7,12 +7,28 @@ ghost use Rattle.clif_ir.specs.Body.{empty_body};
 use crate::fixture;
 use crate::instructions::rows::{Edge, Immediate, Passed, Row};
 use cranelift_frontend::{
-    BlockArg, BlockCall, EntityRef, ExtFuncData, ExternalName, FuncRef, Function, Inst,
-    InstructionData, MemFlagsData, SigRef, Signature, StackSlot, Type, Value, types,
+    BlockArg, BlockCall, BuildError, EntityRef, ExtFuncData, ExternalName, FuncRef, Function, Inst,
+    InstBuilder, InstructionData, MemFlagsData, SigRef, Signature, StackSlot, Type, Value, types,
 };
 use std::alloc::{AllocError, Global};
 use std::process::Abort;
 use std::test::Fail;
+
+/// A builder whose methods answer results.
+pub trait ResultBuilder: InstBuilder<
+    ValueAnswer = Result<Value, BuildError>,
+    PairAnswer = Result<(Value, Value), BuildError>,
+    InstAnswer = Result<Inst, BuildError>,
+> {}
+
+impl<B> ResultBuilder for B
+where
+    B: InstBuilder<
+        ValueAnswer = Result<Value, BuildError>,
+        PairAnswer = Result<(Value, Value), BuildError>,
+        InstAnswer = Result<Inst, BuildError>,
+    >,
+{}
 
 /// What the instruction of a row may name.
 #[derive(Clone, Copy)]

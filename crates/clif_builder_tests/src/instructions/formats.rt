@@ -3,12 +3,11 @@
 
 ghost use Rattle.clif_instructions.specs.Instruction.{ASlot};
 
-use crate::instructions::fixture::Given;
+use crate::instructions::fixture::{Given, ResultBuilder};
 use crate::instructions::methods::BYTES;
 use cranelift_frontend::types::{I8X16, I16, I32, I32X4, I64, I128};
 use cranelift_frontend::{
-    CondTrapOpcode, ConvertOpcode, InstBuilder, Opcode, PooledConstOpcode, StackOpcode, TrapCode,
-    Type,
+    CondTrapOpcode, ConvertOpcode, Opcode, PooledConstOpcode, StackOpcode, TrapCode, Type,
 };
 
 /// Whether the row of this opcode has an instruction that a method for a format makes.
@@ -43,7 +42,7 @@ fn converted_type(opcode: ConvertOpcode) -> Type {
     }
 }
 
-fn stack<B: InstBuilder>(ins: &mut B, opcode: StackOpcode, given: &Given) -> bool
+fn stack<B: ResultBuilder>(ins: &mut B, opcode: StackOpcode, given: &Given) -> bool
     requires current { B.can_build ins.old }
     requires slot_exists { B.has_entry ins.old (ASlot given.now.slot) }
 {
@@ -53,7 +52,7 @@ fn stack<B: InstBuilder>(ins: &mut B, opcode: StackOpcode, given: &Given) -> boo
     }
 }
 
-fn cond_trap<B: InstBuilder>(ins: &mut B, opcode: CondTrapOpcode, given: &Given) -> bool
+fn cond_trap<B: ResultBuilder>(ins: &mut B, opcode: CondTrapOpcode, given: &Given) -> bool
     requires current { B.can_build ins.old }
     requires x_exists { B.has_value ins.old given.now.x }
     requires y_exists { B.has_value ins.old given.now.y }
@@ -68,7 +67,7 @@ fn cond_trap<B: InstBuilder>(ins: &mut B, opcode: CondTrapOpcode, given: &Given)
 }
 
 /// Makes the instruction of a row by the method for its format, and says whether that succeeded.
-pub fn make_by_format<B: InstBuilder>(ins: &mut B, opcode: Opcode, given: &Given) -> bool
+pub fn make_by_format<B: ResultBuilder>(ins: &mut B, opcode: Opcode, given: &Given) -> bool
     requires current { B.can_build ins.old }
     requires x_exists { B.has_value ins.old given.now.x }
     requires y_exists { B.has_value ins.old given.now.y }

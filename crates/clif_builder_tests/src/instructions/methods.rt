@@ -9,18 +9,17 @@ ghost use Rattle.clif_instructions.specs.Instruction.{AFunctionRef, ASignatureRe
 ghost use Rattle.clif_instructions.specs.declared.block_call.BlockArg.TheVariants as arg;
 ghost use Rattle.clif_inst_builder.specs.Shapes.{edge_to};
 
-use crate::instructions::fixture::{Given, flags};
+use crate::instructions::fixture::{Given, ResultBuilder, flags};
 use cranelift_frontend::types::{I8X16, I16, I32, I32X4, I64, I128};
 use cranelift_frontend::{
-    BinaryOpcode, Block, BlockArg, CondTrapOpcode, ConvertOpcode, FloatConstOpcode, FuncRef,
-    InstBuilder, IntCC, Opcode, PooledConstOpcode, SigRef, StackOpcode, StackSlot, TrapCode,
-    UnaryOpcode, Value,
+    BinaryOpcode, Block, BlockArg, CondTrapOpcode, ConvertOpcode, FloatConstOpcode, FuncRef, IntCC,
+    Opcode, PooledConstOpcode, SigRef, StackOpcode, StackSlot, TrapCode, UnaryOpcode, Value,
 };
 
 /// The bytes of pooled constants, as many as an F128 and an I8X16 have.
 pub const BYTES: [u8; 16] = [1, 2, 3, 4, 5, 6, 7, 8, 9, 10, 11, 12, 13, 14, 15, 16];
 
-fn float_const<B: InstBuilder>(ins: &mut B, opcode: FloatConstOpcode) -> bool
+fn float_const<B: ResultBuilder>(ins: &mut B, opcode: FloatConstOpcode) -> bool
     requires { B.can_build ins.old }
 {
     match opcode {
@@ -30,7 +29,7 @@ fn float_const<B: InstBuilder>(ins: &mut B, opcode: FloatConstOpcode) -> bool
     }
 }
 
-fn pooled_const<B: InstBuilder>(ins: &mut B, opcode: PooledConstOpcode) -> bool
+fn pooled_const<B: ResultBuilder>(ins: &mut B, opcode: PooledConstOpcode) -> bool
     requires { B.can_build ins.old }
 {
     match opcode {
@@ -39,7 +38,7 @@ fn pooled_const<B: InstBuilder>(ins: &mut B, opcode: PooledConstOpcode) -> bool
     }
 }
 
-fn unary<B: InstBuilder>(ins: &mut B, opcode: UnaryOpcode, x: Value) -> bool
+fn unary<B: ResultBuilder>(ins: &mut B, opcode: UnaryOpcode, x: Value) -> bool
     requires current { B.can_build ins.old }
     requires x_exists { B.has_value ins.old x }
 {
@@ -49,7 +48,7 @@ fn unary<B: InstBuilder>(ins: &mut B, opcode: UnaryOpcode, x: Value) -> bool
     }
 }
 
-fn convert<B: InstBuilder>(ins: &mut B, opcode: ConvertOpcode, x: Value) -> bool
+fn convert<B: ResultBuilder>(ins: &mut B, opcode: ConvertOpcode, x: Value) -> bool
     requires current { B.can_build ins.old }
     requires x_exists { B.has_value ins.old x }
 {
@@ -61,7 +60,7 @@ fn convert<B: InstBuilder>(ins: &mut B, opcode: ConvertOpcode, x: Value) -> bool
     }
 }
 
-fn binary<B: InstBuilder>(ins: &mut B, opcode: BinaryOpcode, x: Value, y: Value) -> bool
+fn binary<B: ResultBuilder>(ins: &mut B, opcode: BinaryOpcode, x: Value, y: Value) -> bool
     requires current { B.can_build ins.old }
     requires x_exists { B.has_value ins.old x }
     requires y_exists { B.has_value ins.old y }
@@ -83,7 +82,7 @@ fn binary<B: InstBuilder>(ins: &mut B, opcode: BinaryOpcode, x: Value, y: Value)
     }
 }
 
-fn stack<B: InstBuilder>(ins: &mut B, opcode: StackOpcode, slot: StackSlot) -> bool
+fn stack<B: ResultBuilder>(ins: &mut B, opcode: StackOpcode, slot: StackSlot) -> bool
     requires current { B.can_build ins.old }
     requires slot_exists { B.has_entry ins.old (ASlot slot) }
 {
@@ -93,7 +92,7 @@ fn stack<B: InstBuilder>(ins: &mut B, opcode: StackOpcode, slot: StackSlot) -> b
     }
 }
 
-fn cond_trap<B: InstBuilder>(ins: &mut B, opcode: CondTrapOpcode, x: Value, y: Value) -> bool
+fn cond_trap<B: ResultBuilder>(ins: &mut B, opcode: CondTrapOpcode, x: Value, y: Value) -> bool
     requires current { B.can_build ins.old }
     requires x_exists { B.has_value ins.old x }
     requires y_exists { B.has_value ins.old y }
@@ -104,7 +103,7 @@ fn cond_trap<B: InstBuilder>(ins: &mut B, opcode: CondTrapOpcode, x: Value, y: V
     }
 }
 
-fn isplit<B: InstBuilder>(ins: &mut B, p: Value) -> bool
+fn isplit<B: ResultBuilder>(ins: &mut B, p: Value) -> bool
     requires current { B.can_build ins.old }
     requires p_exists { B.has_value ins.old p }
     requires p_type { B.type_of ins.old p ≡ I64 }
@@ -113,7 +112,7 @@ fn isplit<B: InstBuilder>(ins: &mut B, p: Value) -> bool
 }
 
 // Those that compute from operands.
-fn compute<B: InstBuilder>(ins: &mut B, opcode: Opcode, x: Value, y: Value, p: Value) -> bool
+fn compute<B: ResultBuilder>(ins: &mut B, opcode: Opcode, x: Value, y: Value, p: Value) -> bool
     requires current { B.can_build ins.old }
     requires x_exists { B.has_value ins.old x }
     requires x_type { B.type_of ins.old x ≡ I32 }
@@ -134,7 +133,7 @@ fn compute<B: InstBuilder>(ins: &mut B, opcode: Opcode, x: Value, y: Value, p: V
 }
 
 // Those that read or write memory.
-fn reach<B: InstBuilder>(ins: &mut B, opcode: Opcode, x: Value, p: Value, slot: StackSlot) -> bool
+fn reach<B: ResultBuilder>(ins: &mut B, opcode: Opcode, x: Value, p: Value, slot: StackSlot) -> bool
     requires current { B.can_build ins.old }
     requires x_exists { B.has_value ins.old x }
     requires p_exists { B.has_value ins.old p }
@@ -149,7 +148,7 @@ fn reach<B: InstBuilder>(ins: &mut B, opcode: Opcode, x: Value, p: Value, slot: 
     }
 }
 
-fn call<B: InstBuilder>(ins: &mut B, function: FuncRef, x: Value) -> bool
+fn call<B: ResultBuilder>(ins: &mut B, function: FuncRef, x: Value) -> bool
     requires current { B.can_build ins.old }
     requires x_exists { B.has_value ins.old x }
     requires function_exists { B.has_entry ins.old (AFunctionRef function) }
@@ -157,7 +156,7 @@ fn call<B: InstBuilder>(ins: &mut B, function: FuncRef, x: Value) -> bool
     ins.call(function, &[x]).is_ok()
 }
 
-fn call_indirect<B: InstBuilder>(ins: &mut B, sig: SigRef, callee: Value, x: Value) -> bool
+fn call_indirect<B: ResultBuilder>(ins: &mut B, sig: SigRef, callee: Value, x: Value) -> bool
     requires current { B.can_build ins.old }
     requires x_exists { B.has_value ins.old x }
     requires callee_exists { B.has_value ins.old callee }
@@ -167,7 +166,7 @@ fn call_indirect<B: InstBuilder>(ins: &mut B, sig: SigRef, callee: Value, x: Val
 }
 
 // Those that leave a block, or may.
-fn leave<B: InstBuilder>(ins: &mut B, opcode: Opcode, x: Value, y: Value) -> bool
+fn leave<B: ResultBuilder>(ins: &mut B, opcode: Opcode, x: Value, y: Value) -> bool
     requires current { B.can_build ins.old }
     requires x_exists { B.has_value ins.old x }
     requires y_exists { B.has_value ins.old y }
@@ -182,7 +181,7 @@ fn leave<B: InstBuilder>(ins: &mut B, opcode: Opcode, x: Value, y: Value) -> boo
 
 /// Makes the instruction of a row by its method, and says whether that succeeded. Those that take a table of their own
 /// aren't made here.
-pub fn make<B: InstBuilder>(ins: &mut B, opcode: Opcode, given: &Given) -> bool
+pub fn make<B: ResultBuilder>(ins: &mut B, opcode: Opcode, given: &Given) -> bool
     requires current { B.can_build ins.old }
     requires x_exists { B.has_value ins.old given.now.x }
     requires x_type { B.type_of ins.old given.now.x ≡ I32 }
@@ -224,7 +223,7 @@ pub fn make<B: InstBuilder>(ins: &mut B, opcode: Opcode, given: &Given) -> bool
 }
 
 /// Makes the jump or the branch of a row by its method, to these blocks, and says whether that succeeded.
-pub fn branch<B: InstBuilder>(
+pub fn branch<B: ResultBuilder>(
     ins: &mut B,
     opcode: Opcode,
     given: &Given,

@@ -6,6 +6,7 @@ use Rattle.std.specs.Prelude.{◌==◌}
 use Rattle.clif_types.specs.EntitySet.{has}
 use Rattle.clif_ir.specs.Body.{block_at}
 use Rattle.clif_records.specs.Tables.{is_yes}
+use Rattle.clif_ssa.specs.Counted.{sum_below}
 use Rattle.clif_ssa.specs.Own.{Own}
 use Rattle.clif_ssa.specs.Ssa.{predecessors_of, sealed_of}
 use Rattle.clif_meaning.specs.CallExamples.{i64}
@@ -17,6 +18,7 @@ use Rattle.clif_meaning.proofs.StraightLine.{nothing_contained}
 use Rattle.clif_simulation.specs.Carries.{AreTypes}
 use Rattle.clif_simulation.specs.Structure.{HasCallersAlone}
 use Rattle.clif_builder.specs.Context.{status_of}
+use Rattle.clif_builder.specs.Counted.{CountsCalls}
 use Rattle.clif_builder.specs.Ledger.{AloneUnlessBegun, AnswerAgrees, AnswersAgree, BlockAgrees, HaveTypes, IsStructured, LedgerAgrees, ResultsFollow, block_name, ledger_of, was_touched}
 use Rattle.clif_builder.specs.StandsFor.{StandsIn}
 use Rattle.clif_builder.specs.declared.context.BlockStatus.TheVariants.{Empty, Filled}
@@ -137,6 +139,11 @@ touched (suc x) = rw (other x) refl
     other : (x : ℕ) → (0 == suc x) ≡ false
     other x = grind (arith, nat_tests)
 
+-- the calls made all that there is, and no parameter waits
+counted : CountsCalls moved_calls moved_body moved_context
+unfolding sum_below
+counted = record { values = omega arith; insts = omega arith }
+
 -- Together ----------------------------------------------------------------------------------------------------------------
 
 agrees_with_ledger : LedgerAgrees moved_calls ledger moved_body moved_context (Some 0)
@@ -151,6 +158,7 @@ agrees_with_ledger = record {
   variables = record { types = refl; touched = touched };
   tables = refl;
   tracks = record { marks = MovedRow.marks; exactly = MovedRow.exactly; untracked = λ nothing. absurd nothing.1.1.1.0 };
+  counts = counted;
   own = own;
   structured = structured;
   callers_types = callers_types;

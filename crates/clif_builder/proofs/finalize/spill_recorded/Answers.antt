@@ -1,6 +1,4 @@
 use Rattle.std.proofs.Common.{rules}
-use Rattle.std.specs.Prelude.{[], ◌≡◌, ◌≢◌}
-use Rattle.clif_records.specs.Tracking.{recorded_of}
 use Rattle.clif_builder.proofs.Spilled.{nothing_finished, spilled_finished}
 use Rattle.clif_builder.proofs.finalize.spill_recorded.Goals as goal
 

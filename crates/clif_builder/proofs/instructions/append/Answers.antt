@@ -11,13 +11,19 @@ use Rattle.clif_ssa.specs.Ssa.{SsaState, NamesExist, sealed_of}
 use Rattle.clif_builder.specs.Context.{ContextState}
 use Rattle.clif_builder.specs.Construction.{IsDeclared}
 use Rattle.clif_builder.proofs.Appending.{inserted_node, lead_unsealed, new_leads_nowhere, none_of_inner, none_of_plain}
+use Rattle.clif_builder.specs.Built.{OnlyLaidOut}
 use Rattle.clif_builder.proofs.Declaring.{declared_none}
+use Rattle.clif_builder.proofs.Growing.{laid_inserted}
 use Rattle.clif_builder.proofs.Named.{names_appended}
 use Rattle.clif_builder.proofs.instructions.append.Goals as goal
 use Rattle.clif_builder.proofs.instructions.append.Goals.{then-ends+in_ok-set_status+in_ok-declare_successors, else-ends}
 
 named_still : (s t : SsaState) (f : Body) → t ≡ s → NamesExist f s → NamesExist f t
 named_still s t f same named = subst (NamesExist f) (sym same) named
+
+pub returns-in_err-inst-clause-full_stays : goal.returns-in_err-inst-clause-full_stays
+returns-in_err-inst-clause-full_stays c = λ is.
+    subst (OnlyLaidOut c.args.func.now) (sym (c.in_err-inst.ensures.err ∙ c.in_ok-begin_block.ensures.function)) (laid_inserted c.args.func.now c.args.block)
 
 pub returns-in_err-set_status-clause-names : goal.returns-in_err-set_status-clause-names
 returns-in_err-set_status-clause-names c =

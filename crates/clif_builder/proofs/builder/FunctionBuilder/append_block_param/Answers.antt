@@ -1,4 +1,7 @@
-use Rattle.std.proofs.Common.{refl}
+use Rattle.std.proofs.Common.{refl, subst, sym}
+use Rattle.clif_builder.proofs.GoingOn.{goes_nowhere, goes_on}
+use Rattle.clif_builder.specs.Growth.{Grows}
+use Rattle.clif_builder.proofs.Growing.{Grows-with_param, on_ok_step}
 use Rattle.clif_builder.proofs.Calls.{told_by, made}
 use Rattle.std.proofs.Common.{[], ◌∷◌}
 use Rattle.clif_builder.proofs.Framed.{filled-same, more-types, param-typed}
@@ -40,6 +43,11 @@ returns-clause-call g c =
     (λ once. once) (more-types c.append_block_param-appended.result c.args.self.now.func.now _ c.args.block (c.args.ty ∷ []) c.append_block_param-appended.ensures.ok)
     (filled-same c.append_block_param-appended.result c.args.self.now.ctx.now.parts c.args.self.now.ctx.now.parts refl)
 
-pub returns-clause-remembers : goal.returns-clause-remembers
-returns-clause-remembers g c = λ x b.
-    remembers_params c.append_block_param-appended.result x b _ _ _ c.args.block (c.args.ty ∷ []) c.law_consistent.ensures c.requires.exists c.append_block_param-appended.ensures.ok
+pub returns-clause-goes_on : goal.returns-clause-goes_on
+returns-clause-goes_on g c =
+    goes_on c.args.self.now _ c.append_block_param-appended.result (returns-clause-call g c)
+    (on_ok_step c.append_block_param-appended.result _ _ (λ function. subst (Grows c.args.self.now.func.now) (sym function) (Grows-with_param c.args.self.now.func.now c.args.block c.args.ty)) c.append_block_param-appended.ensures.ok)
+    (λ x b. remembers_params c.append_block_param-appended.result x b _ _ _ c.args.block (c.args.ty ∷ []) c.law_consistent.ensures c.requires.exists c.append_block_param-appended.ensures.ok)
+
+pub returns-then-self-clause-goes_on : goal.returns-then-self-clause-goes_on
+returns-then-self-clause-goes_on g c = goes_nowhere (λ x b. Unit {0}) c.args.self.now _ _

@@ -1,3 +1,5 @@
+use Rattle.clif_builder.proofs.Fitting.{on_ok_all}
+use Rattle.clif_builder.proofs.GoingOn.{goes_nowhere, goes_on}
 use Rattle.clif_builder.proofs.Calls.{told, made}
 use Rattle.std.proofs.Common.{inl, refl}
 use Rattle.clif_meaning.specs.Request.{AppendBlockParams}
@@ -36,6 +38,11 @@ returns-clause-call g c =
     (λ once. once) (more-types c.append_function_returns-appended.result c.args.self.now.func.now _ c.args.block (types_of c.args.self.now.func.now.signature.returns) c.append_function_returns-appended.ensures.ok)
     (filled-same c.append_function_returns-appended.result c.args.self.now.ctx.now.parts c.args.self.now.ctx.now.parts refl)
 
-pub returns-clause-remembers : goal.returns-clause-remembers
-returns-clause-remembers g c = λ x b.
-    remembers_params c.append_function_returns-appended.result x b _ _ _ c.args.block (types_of c.args.self.now.func.now.signature.returns) c.law_consistent.ensures c.requires.exists c.append_function_returns-appended.ensures.ok
+pub returns-clause-goes_on : goal.returns-clause-goes_on
+returns-clause-goes_on g c =
+    let done = c.append_function_returns-appended.ensures in
+    goes_on c.args.self.now _ c.append_function_returns-appended.result (returns-clause-call g c) (on_ok_all c.append_function_returns-appended.result done.grows)
+    (λ x b. remembers_params c.append_function_returns-appended.result x b _ _ _ c.args.block (types_of c.args.self.now.func.now.signature.returns) c.law_consistent.ensures c.requires.exists done.ok)
+
+pub returns-then-self-clause-goes_on : goal.returns-then-self-clause-goes_on
+returns-then-self-clause-goes_on g c = goes_nowhere (λ x b. Unit {0}) c.args.self.now _ _

@@ -1,8 +1,9 @@
 use Rattle.std.proofs.Common.{refl}
+use Rattle.clif_builder.proofs.GoingOn.{goes_nowhere, goes_on}
 use Rattle.clif_builder.proofs.Calls.{by_memory, made}
 use Rattle.clif_builder.proofs.Framed.{filled-same}
 use Rattle.clif_builder.proofs.Named.{kept_by}
-use Rattle.clif_builder.proofs.Redirected.{names_redirected, order_after, redirected_current, redirected_grows, redirected_remembers, redirected_stands, redirected_types, redirects_from}
+use Rattle.clif_builder.proofs.Redirected.{names_redirected, order_after, redirected_grows, redirected_remembers, redirected_stands, redirected_types, redirects_from}
 use Rattle.clif_builder.proofs.Fitting.{fits_kept, on_ok_all}
 use Rattle.clif_builder.proofs.builder.FunctionBuilder.change_jump_destination.Goals as goal
 
@@ -27,18 +28,6 @@ returns-clause-call g c =
     (redirects_from c.move_branch-moved.result c.args.self.now.func.now c.args.self.now.ctx.now.parts c.move_branch-moved.new.func c.move_branch-moved.new.self c.args.inst c.args.old_block c.args.new_block done.moved done.records done.tracking done.status done.variables))
     (filled-same c.move_branch-moved.result c.args.self.now.ctx.now.parts c.move_branch-moved.new.self done.status)
 
-pub returns-clause-grows : goal.returns-clause-grows
-returns-clause-grows g c =
-    let done = c.move_branch-moved.ensures in
-    redirected_grows c.move_branch-moved.result c.args.self.now.func.now c.args.self.now.ctx.now.parts c.move_branch-moved.new.func c.move_branch-moved.new.self c.args.inst c.args.old_block c.args.new_block c.requires.inst_exists
-    (redirects_from c.move_branch-moved.result c.args.self.now.func.now c.args.self.now.ctx.now.parts c.move_branch-moved.new.func c.move_branch-moved.new.self c.args.inst c.args.old_block c.args.new_block done.moved done.records done.tracking done.status done.variables)
-
-pub returns-clause-remembers : goal.returns-clause-remembers
-returns-clause-remembers g c = λ x b.
-    let done = c.move_branch-moved.ensures in
-    redirected_remembers c.move_branch-moved.result c.args.self.now.func.now c.args.self.now.ctx.now.parts c.move_branch-moved.new.func c.move_branch-moved.new.self c.args.inst c.args.old_block c.args.new_block c.requires.inst_exists x b
-    (redirects_from c.move_branch-moved.result c.args.self.now.func.now c.args.self.now.ctx.now.parts c.move_branch-moved.new.func c.move_branch-moved.new.self c.args.inst c.args.old_block c.args.new_block done.moved done.records done.tracking done.status done.variables)
-
 pub invariant_of-self : goal.invariant_of-self
 invariant_of-self g c =
     let done = c.move_branch-moved.ensures in
@@ -56,9 +45,13 @@ invariant_of-self g c =
           c.args.self.now.named;
     }
 
-pub returns-clause-current : goal.returns-clause-current
-returns-clause-current g c =
+pub returns-clause-goes_on : goal.returns-clause-goes_on
+returns-clause-goes_on g c =
     let done = c.move_branch-moved.ensures in
-    redirected_current c.move_branch-moved.result c.args.self.now.position c.args.self.now.func.now c.args.self.now.ctx.now.parts c.move_branch-moved.new.func c.move_branch-moved.new.self c.args.inst c.args.old_block c.args.new_block
-    c.requires.inst_exists
-    (redirects_from c.move_branch-moved.result c.args.self.now.func.now c.args.self.now.ctx.now.parts c.move_branch-moved.new.func c.move_branch-moved.new.self c.args.inst c.args.old_block c.args.new_block done.moved done.records done.tracking done.status done.variables)
+    let redirects = redirects_from c.move_branch-moved.result c.args.self.now.func.now c.args.self.now.ctx.now.parts c.move_branch-moved.new.func c.move_branch-moved.new.self c.args.inst c.args.old_block c.args.new_block done.moved done.records done.tracking done.status done.variables in
+    goes_on c.args.self.now _ c.move_branch-moved.result (returns-clause-call g c)
+    (redirected_grows c.move_branch-moved.result c.args.self.now.func.now c.args.self.now.ctx.now.parts c.move_branch-moved.new.func c.move_branch-moved.new.self c.args.inst c.args.old_block c.args.new_block c.requires.inst_exists redirects)
+    (λ x b. redirected_remembers c.move_branch-moved.result c.args.self.now.func.now c.args.self.now.ctx.now.parts c.move_branch-moved.new.func c.move_branch-moved.new.self c.args.inst c.args.old_block c.args.new_block c.requires.inst_exists x b redirects)
+
+pub returns-then-self-clause-goes_on : goal.returns-then-self-clause-goes_on
+returns-then-self-clause-goes_on g c = goes_nowhere (λ x b. Unit {0}) c.args.self.now _ _

@@ -1,3 +1,4 @@
+use Rattle.clif_builder.proofs.GoingOn.{goes_nowhere, goes_on}
 use Rattle.clif_builder.proofs.Framed.{created-untouched, filled-same, made-types}
 use Rattle.clif_builder.proofs.Named.{kept_by, kept_fresh}
 use Rattle.clif_builder.proofs.Ordered.{order-created}
@@ -25,11 +26,6 @@ returns-clause-call g c =
     c.make_block-made.ensures.looks_once (made-types c.make_block-made.result _ _ c.make_block-made.ensures.function)
     (filled-same c.make_block-made.result c.args.self.now.ctx.now.parts c.make_block-made.new.ctx c.make_block-made.ensures.status)
 
-pub returns-clause-remembers : goal.returns-clause-remembers
-returns-clause-remembers g c = λ x b.
-    let made = c.make_block-made.ensures in
-    remembers_created c.make_block-made.result x b _ _ _ _ made.function made.records
-
 pub returns-clause-untouched : goal.returns-clause-untouched
 returns-clause-untouched g c =
     let made = c.make_block-made.ensures in
@@ -46,3 +42,11 @@ invariant_of-self g c =
           (on_ok_all c.make_block-made.result made.variables.0) fits)
           c.args.self.now.named;
     }
+
+pub returns-clause-goes_on : goal.returns-clause-goes_on
+returns-clause-goes_on g c =
+    let made = c.make_block-made.ensures in
+    goes_on c.args.self.now _ c.make_block-made.result (returns-clause-call g c) made.grows (λ x b. remembers_created c.make_block-made.result x b _ _ _ _ made.function made.records)
+
+pub returns-then-self-clause-goes_on : goal.returns-then-self-clause-goes_on
+returns-then-self-clause-goes_on g c = goes_nowhere (λ x b. Unit {0}) c.args.self.now _ _

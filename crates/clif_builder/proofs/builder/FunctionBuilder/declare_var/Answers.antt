@@ -1,5 +1,6 @@
 use Rattle.std.proofs.Common.{subst, sym}
 use Rattle.clif_ssa.specs.Ssa.{NamesExist}
+use Rattle.clif_builder.proofs.GoingOn.{goes_nowhere, goes_on, grows_still}
 use Rattle.clif_builder.proofs.Framed.{filled-declared, same-types}
 use Rattle.clif_builder.proofs.Named.{kept_by}
 use Rattle.clif_builder.proofs.Ordered.{order-declared}
@@ -24,9 +25,6 @@ returns-clause-call g c =
     (same_looks _ _ c.declare_var-declared.ensures.ssa) (same-types c.declare_var-declared.result c.args.self.now.func.now)
     (filled-declared c.declare_var-declared.result c.args.self.now.ctx.now.parts c.declare_var-declared.new.self _ c.declare_var-declared.ensures.ok)
 
-pub returns-clause-remembers : goal.returns-clause-remembers
-returns-clause-remembers g c = λ x b. remembers_declared c.declare_var-declared.result x b c.args.self.now.func.now _ _ c.args.ty c.declare_var-declared.ensures.ok
-
 pub invariant_of-self : goal.invariant_of-self
 invariant_of-self g c = record {
   named = kept_by c.declare_var-declared.result _ _ _ _ _ _ c.if-self.false c.is_err-self.ensures.value
@@ -35,3 +33,11 @@ invariant_of-self g c = record {
       (λ order fits. fits_declared c.declare_var-declared.result c.args.self.now.func.now c.args.self.now.ctx.now.parts c.declare_var-declared.new.self c.args.ty c.declare_var-declared.ensures.ok fits)
       c.args.self.now.named;
 }
+
+pub returns-clause-goes_on : goal.returns-clause-goes_on
+returns-clause-goes_on g c =
+    goes_on c.args.self.now _ c.declare_var-declared.result (returns-clause-call g c) (grows_still c.declare_var-declared.result c.args.self.now.func.now _ refl)
+    (λ x b. remembers_declared c.declare_var-declared.result x b c.args.self.now.func.now _ _ c.args.ty c.declare_var-declared.ensures.ok)
+
+pub returns-then-self-clause-goes_on : goal.returns-then-self-clause-goes_on
+returns-then-self-clause-goes_on g c = goes_nowhere (λ x b. Unit {0}) c.args.self.now _ _

@@ -1,3 +1,5 @@
+use Rattle.clif_builder.proofs.GoingOn.{goes_nowhere, goes_where, grows_still}
+use Rattle.clif_builder.specs.GoesOn.{IsUnassigned}
 use Rattle.clif_builder.proofs.Framed.{filled-same, same-types}
 use Rattle.clif_builder.proofs.Named.{kept_by}
 use Rattle.clif_builder.proofs.Ordered.{order-assigned}
@@ -32,11 +34,6 @@ returns-clause-call g c =
     c.def_var-recorded.ensures.looks_once (same-types c.def_var-recorded.result c.args.self.now.func.now)
     (filled-same c.def_var-recorded.result c.args.self.now.ctx.now.parts c.def_var-recorded.new.self c.def_var-recorded.ensures.status)
 
-pub returns-clause-remembers : goal.returns-clause-remembers
-returns-clause-remembers g c = λ x b apart.
-    remembers_assigned c.def_var-recorded.result c.args.variable c.in-Some.block x b c.args.value _ _ _ _
-    (λ first second. apart first (c.in-Some.is ∙ ap Some (sym second))) refl c.def_var-recorded.ensures.ok
-
 pub invariant_of-self : goal.invariant_of-self
 invariant_of-self g c =
     let done = c.def_var-recorded.ensures in
@@ -48,3 +45,14 @@ invariant_of-self g c =
           c.requires.same_type done.tracking done.variables fits)
           c.args.self.now.named;
     }
+
+pub returns-clause-goes_on : goal.returns-clause-goes_on
+returns-clause-goes_on g c =
+    goes_where (IsUnassigned c.args.self.now c.args.variable) c.args.self.now _ c.def_var-recorded.result (returns-clause-call g c)
+    (grows_still c.def_var-recorded.result c.args.self.now.func.now _ refl)
+    (λ x b apart.
+    remembers_assigned c.def_var-recorded.result c.args.variable c.in-Some.block x b c.args.value _ _ _ _
+    (λ first second. apart first (c.in-Some.is ∙ ap Some (sym second))) refl c.def_var-recorded.ensures.ok)
+
+pub returns-then-self-clause-goes_on : goal.returns-then-self-clause-goes_on
+returns-then-self-clause-goes_on g c = goes_nowhere (IsUnassigned c.args.self.now c.args.variable) c.args.self.now _ _

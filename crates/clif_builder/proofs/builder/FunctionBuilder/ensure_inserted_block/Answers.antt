@@ -1,8 +1,13 @@
+use Rattle.clif_ir.specs.Body.{Body}
+use Rattle.clif_builder.proofs.Remembered.{remembers_valued}
+use Rattle.clif_builder.proofs.GoingOn.{goes_nowhere, goes_on}
+use Rattle.clif_builder.specs.Growth.{Grows}
+use Rattle.clif_builder.proofs.Growing.{Grows-inserted, on_ok_step, same_values-inserted}
 use Rattle.clif_builder.proofs.Framed.{filled-begun, inserted-types}
 use Rattle.clif_builder.proofs.Named.{kept_by}
 use Rattle.clif_builder.proofs.Ordered.{order-ensured}
 use Rattle.clif_builder.proofs.Standing.{current_exists}
-use Rattle.std.proofs.Common.{ap, refl}
+use Rattle.std.proofs.Common.{ap, refl, subst, sym, ◌∙◌}
 use Rattle.clif_ssa.specs.Ssa.{SsaState}
 use Rattle.clif_builder.proofs.Calls.{same_looks, told, made, by_memory}
 use Rattle.clif_builder.proofs.Marking.{ensured, ensured_stands}
@@ -37,3 +42,13 @@ returns-clause-call g c =
     made c.args.self.now _ c.begin_block-begun.result (record { func = refl; ctx = refl; region = refl }) refl refl c.if-self.false (by_memory _ c.begin_block-begun.ensures.only_memory) c.is_err-self.ensures.value
     (same_looks _ _ c.begin_block-begun.ensures.ssa) (inserted-types c.begin_block-begun.result c.args.self.now.func.now _ c.in-Some.block c.begin_block-begun.ensures.function)
     (filled-begun c.begin_block-begun.result c.args.self.now.ctx.now.parts c.begin_block-begun.new.ctx c.in-Some.block c.begin_block-begun.ensures.status)
+
+pub returns-clause-goes_on : goal.returns-clause-goes_on
+returns-clause-goes_on g c =
+    let done = c.begin_block-begun.ensures in
+    goes_on c.args.self.now _ c.begin_block-begun.result (returns-clause-call g c)
+    (on_ok_step c.begin_block-begun.result _ _ (λ function. subst (Grows c.args.self.now.func.now) (sym function) (Grows-inserted c.args.self.now.func.now c.in-Some.block)) done.function)
+    (λ x b. on_ok_step c.begin_block-begun.result _ _ (λ function. remembers_valued x b c.args.self.now.func.now _ _ _ (ap (λ (f : Body). f.values) function ∙ same_values-inserted c.args.self.now.func.now c.in-Some.block) done.ssa) done.function)
+
+pub returns-then-self-clause-goes_on : goal.returns-then-self-clause-goes_on
+returns-then-self-clause-goes_on g c = goes_nowhere (λ x b. Unit {0}) c.args.self.now _ _

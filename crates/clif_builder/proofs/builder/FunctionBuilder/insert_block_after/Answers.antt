@@ -2,6 +2,10 @@ use Rattle.std.proofs.Common.{ap}
 use Rattle.clif_types.specs.declared.error.BuildError.{BuildError}
 use Rattle.clif_ir.specs.Body.{value_at}
 use Rattle.clif_builder.specs.Order.{IsInOrder}
+use Rattle.clif_builder.specs.Growth.{Grows}
+use Rattle.clif_builder.proofs.Growing.{Grows-laid}
+use Rattle.clif_builder.proofs.Remembered.{remembers_valued}
+use Rattle.clif_builder.proofs.GoingOn.{goes_nowhere, goes_on}
 use Rattle.clif_builder.proofs.Framed.{filled-same}
 use Rattle.clif_builder.proofs.Named.{kept_still}
 use Rattle.clif_builder.proofs.Ordered.{order-laid}
@@ -46,3 +50,12 @@ returns-clause-call g c =
     made c.args.self.now _ (Ok tt) (record { func = refl; ctx = refl; region = refl }) refl refl c.if-self.false (by_success tt) c.if-self.false
     (λ once. once) (λ v inside. ap (λ (f : Body). (value_at f v).ty) c.insert_block_after.ensures)
     (filled-same {A = Unit {0}} {E = BuildError} (Ok tt) c.args.self.now.ctx.now.parts c.args.self.now.ctx.now.parts refl)
+
+pub returns-clause-goes_on : goal.returns-clause-goes_on
+returns-clause-goes_on g c =
+    goes_on c.args.self.now _ (Ok tt) (returns-clause-call g c)
+    (subst (Grows c.args.self.now.func.now) (sym c.insert_block_after.ensures) (Grows-laid c.args.self.now.func.now c.args.block c.args.after))
+    (λ x b. remembers_valued x b c.args.self.now.func.now _ _ _ (ap (λ (f : Body). f.values) c.insert_block_after.ensures) refl)
+
+pub returns-then-self-clause-goes_on : goal.returns-then-self-clause-goes_on
+returns-then-self-clause-goes_on g c = goes_nowhere (λ x b. Unit {0}) c.args.self.now _ _

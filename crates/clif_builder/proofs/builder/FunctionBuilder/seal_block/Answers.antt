@@ -1,11 +1,15 @@
 use Rattle.std.proofs.Common.{refl}
+use Rattle.clif_builder.proofs.GoingOn.{goes_nowhere, goes_on}
 use Rattle.clif_builder.proofs.Calls.{told, made}
+use Rattle.clif_builder.proofs.Counted.{waits_declared, within_full}
+use Rattle.clif_builder.proofs.Placed.{in_order}
+use Rattle.clif_builder.proofs.UsedAlike.{failed_full}
 use Rattle.std.specs.Prelude.{◌==◌}
 use Rattle.clif_builder.proofs.Remembered.{remembers_sealed}
 use Rattle.clif_builder.proofs.LedgerBlocks.{sealed}
 use Rattle.clif_builder.proofs.Standing.{standing_edges}
 use Rattle.clif_builder.proofs.StandingResults.{sealed_stands}
-use Rattle.clif_builder.proofs.Growing.{sealed_current, sealed_grows}
+use Rattle.clif_builder.proofs.Growing.{sealed_grows}
 use Rattle.clif_builder.proofs.Framed.{sealed-filled, sealed-others, sealed-types}
 use Rattle.clif_builder.proofs.Named.{kept_by, opened}
 use Rattle.clif_builder.proofs.Ordered.{order-sealed-one}
@@ -31,12 +35,6 @@ returns-clause-call g c =
     c.seal_block-sealed.ensures.looks_once (sealed-types c.seal_block-sealed.result c.args.self.now.func.now c.seal_block-sealed.new.func c.args.self.now.ctx.now.parts c.seal_block-sealed.new.self (λ b. b == c.args.block) c.seal_block-sealed.ensures.is_sealing)
     (sealed-filled c.seal_block-sealed.result c.args.self.now.func.now c.seal_block-sealed.new.func c.args.self.now.ctx.now.parts c.seal_block-sealed.new.self (λ b. b == c.args.block) c.seal_block-sealed.ensures.is_sealing)
 
-pub returns-clause-grows : goal.returns-clause-grows
-returns-clause-grows g c = sealed_grows c.seal_block-sealed.result c.args.self.now.func.now c.args.self.now.ctx.now.parts c.seal_block-sealed.new.func c.seal_block-sealed.new.self (λ b. b == c.args.block) c.seal_block-sealed.ensures.is_sealing
-
-pub returns-clause-current : goal.returns-clause-current
-returns-clause-current g c = sealed_current c.seal_block-sealed.result c.args.self.now.position c.args.self.now.func.now c.args.self.now.ctx.now.parts c.seal_block-sealed.new.func c.seal_block-sealed.new.self (λ b. b == c.args.block) c.seal_block-sealed.ensures.is_sealing
-
 pub seal_block-sealed-requires : goal.seal_block-sealed-requires
 seal_block-sealed-requires g c = record { named = opened _ _ _ c.args.self.now.named }
 
@@ -46,21 +44,11 @@ returns-then-self-clause-edges_match g c = λ signature calls stands none_waits 
 pub returns-clause-edges_match : goal.returns-clause-edges_match
 returns-clause-edges_match g c = λ signature calls stands none_waits typed. standing_edges signature calls _ _ _ stands none_waits typed
 
-pub returns-clause-remembers : goal.returns-clause-remembers
-returns-clause-remembers g c = λ x b.
-    remembers_sealed c.seal_block-sealed.result x b c.args.self.now.func.now c.seal_block-sealed.new.func c.args.self.now.ctx.now.parts c.seal_block-sealed.new.self (λ b. b == c.args.block) c.seal_block-sealed.ensures.is_sealing
-
 pub returns-then-self-clause-parameters : goal.returns-then-self-clause-parameters
 returns-then-self-clause-parameters g c = λ signature calls stands. sealed_parameters calls _ _ stands.carries
 
 pub returns-clause-parameters : goal.returns-clause-parameters
 returns-clause-parameters g c = λ signature calls stands. sealed_parameters calls _ _ stands.carries
-
-pub returns-then-self-clause-constructs : goal.returns-then-self-clause-constructs
-returns-then-self-clause-constructs g c = constructs_none _
-
-pub returns-clause-others : goal.returns-clause-others
-returns-clause-others g c = sealed-others c.seal_block-sealed.result c.args.self.now.func.now c.seal_block-sealed.new.func c.args.self.now.ctx.now.parts c.seal_block-sealed.new.self c.args.block c.seal_block-sealed.ensures.is_sealing
 
 pub invariant_of-self : goal.invariant_of-self
 invariant_of-self g c =
@@ -80,3 +68,42 @@ returns-clause-pools g c = c.seal_block-sealed.ensures.pools
 
 pub returns-clause-full : goal.returns-clause-full
 returns-clause-full g c = c.seal_block-sealed.ensures.full
+
+pub returns-clause-goes_on : goal.returns-clause-goes_on
+returns-clause-goes_on g c =
+    goes_on c.args.self.now _ c.seal_block-sealed.result (returns-clause-call g c)
+    (sealed_grows c.seal_block-sealed.result c.args.self.now.func.now c.args.self.now.ctx.now.parts c.seal_block-sealed.new.func c.seal_block-sealed.new.self (λ b. b == c.args.block) c.seal_block-sealed.ensures.is_sealing)
+    (λ x b. remembers_sealed c.seal_block-sealed.result x b c.args.self.now.func.now c.seal_block-sealed.new.func c.args.self.now.ctx.now.parts c.seal_block-sealed.new.self (λ b. b == c.args.block) c.seal_block-sealed.ensures.is_sealing)
+
+pub returns-then-self-clause-goes_on : goal.returns-then-self-clause-goes_on
+returns-then-self-clause-goes_on g c = goes_nowhere (λ x b. Unit {0}) c.args.self.now _ _
+
+pub returns-clause-leaves : goal.returns-clause-leaves
+returns-clause-leaves g c =
+    let done = c.seal_block-sealed.ensures in
+    record {
+      stay = done.stay;
+      variables = done.variables.0;
+      constructs = done.constructs;
+      within = λ calls agrees full.
+          within_full calls c.args.self.now.func.now c.args.self.now.ctx.now.parts c.seal_block-sealed.new.func c.seal_block-sealed.new.self.ssa c.seal_block-sealed.result (done.counts c.requires.exists)
+          (waits_declared c.args.self.now.func.now c.args.self.now.ctx.now.parts (in_order agrees)) agrees.counts full;
+    }
+
+pub returns-then-self-clause-leaves : goal.returns-then-self-clause-leaves
+returns-then-self-clause-leaves g c = record { stay = λ x b v is. is; variables = refl; constructs = constructs_none _; within = λ calls agrees full. absurd (failed_full full) }
+
+pub returns-clause-seals : goal.returns-clause-seals
+returns-clause-seals g c =
+    let done = c.seal_block-sealed.ensures in
+    record {
+      is_sealing = done.is_sealing;
+      alone = done.alone;
+      others = sealed-others c.seal_block-sealed.result c.args.self.now.func.now c.seal_block-sealed.new.func c.args.self.now.ctx.now.parts c.seal_block-sealed.new.self c.args.block done.is_sealing;
+      function = done.function;
+      sealed = done.sealed;
+      records = done.records;
+    }
+
+pub returns-then-self-clause-seals : goal.returns-then-self-clause-seals
+returns-then-self-clause-seals g c = record { is_sealing = tt; alone = λ none. tt; others = tt; function = λ none. tt; sealed = λ none. tt; records = λ none x b. refl }

@@ -1,7 +1,10 @@
 use Rattle.clif_builder.specs.Order.{IsInOrder}
+use Rattle.clif_builder.specs.Growth.{Grows}
+use Rattle.clif_builder.proofs.Growing.{Grows-cold}
+use Rattle.clif_builder.proofs.Remembered.{remembers_valued}
 use Rattle.clif_builder.proofs.Named.{kept_still}
 use Rattle.clif_builder.proofs.Ordered.{order-cold}
-use Rattle.std.proofs.Common.{List, [], ◌∷◌, ◌++◌, ap, sym, subst}
+use Rattle.std.proofs.Common.{List, [], ◌∷◌, ◌++◌, ap, sym, subst, refl, arith}
 use Rattle.clif_ir.specs.Body.{Body, value_at}
 use Rattle.clif_ssa.specs.Ssa.{NamesExist}
 use Rattle.clif_meaning.specs.Request.{AnsweredCall, SetColdBlock}
@@ -32,3 +35,12 @@ returns-clause-stands g c = λ signature calls name stands names.
     subst (λ (f : Body). StandsIn signature after f c.args.self.now.ctx.now.parts c.args.self.now.position) (sym c.set_cold_block.ensures)
     (cold_stands signature calls c.args.self.now.func.now c.args.self.now.ctx.now.parts c.args.self.now.position name c.args.block stands
     (cold calls c.args.self.now.func.now c.args.self.now.ctx.now.parts c.args.self.now.position name c.args.block stands.ledger names))
+
+pub returns-clause-goes_on : goal.returns-clause-goes_on
+returns-clause-goes_on g c =
+    let grows = subst (Grows c.args.self.now.func.now) (sym c.set_cold_block.ensures) (Grows-cold c.args.self.now.func.now c.args.block) in
+    record {
+      grows = grows;
+      remembers = λ x b _. remembers_valued x b c.args.self.now.func.now _ _ _ (ap (λ (f : Body). f.values) c.set_cold_block.ensures) refl;
+      current = λ current. (current.0, current.1, omega (arith, current.2, grows.2), current.3);
+    }

@@ -1,4 +1,5 @@
 use Rattle.std.proofs.Common.{refl}
+use Rattle.clif_builder.proofs.Growing.{Grows-same}
 use Rattle.clif_builder.proofs.Remembered.{remembers_same}
 use Rattle.clif_builder.specs.Builder.{with_srcloc}
 use Rattle.clif_builder.proofs.Named.{same_builder}
@@ -13,8 +14,5 @@ returns-clause-ledger g c = λ calls agrees. agrees
 pub returns-clause-stands : goal.returns-clause-stands
 returns-clause-stands g c = λ signature calls stands. stands
 
-pub returns-clause-remembers : goal.returns-clause-remembers
-returns-clause-remembers g c = λ x b. remembers_same x b _ _ _ _ refl refl
-
-pub returns-clause-current : goal.returns-clause-current
-returns-clause-current g c = λ current. current
+pub returns-clause-goes_on : goal.returns-clause-goes_on
+returns-clause-goes_on g c = record { grows = Grows-same c.args.self.now.func.now _ refl; remembers = λ x b _. remembers_same x b _ _ _ _ refl refl; current = λ current. current }

@@ -1,10 +1,14 @@
-use Rattle.std.proofs.Common.{◌≡◌, ◌<◌, ℕ, List, length, refl, sym, ◌∙◌}
-use Rattle.std.specs.Prelude.{Option, None, Some, is_some, slice_get, true}
+use Rattle.std.proofs.Common.{◌≡◌, ◌<◌, ℕ, List, length, refl, ap, sym, ◌∙◌}
+use Rattle.std.specs.Prelude.{Option, None, Some, Err, false, is_some, slice_get, true}
 use Rattle.std.proofs.lemmas.Option.{slice_get_within}
 use Rattle.std.proofs.lemmas.Result.{err_from_is_err_and}
 use Rattle.clif_types.specs.declared.types.«Type».{«Type»}
 use Rattle.clif_simulation.proofs.Shape.CarriedStructure.{sealed_parameters}
-use Rattle.clif_builder.proofs.Calls.{error_as, failed_as}
+use Rattle.clif_records.specs.Tables.{is_yes}
+use Rattle.clif_ssa.specs.Ssa.{SsaState, sealed_of}
+use Rattle.clif_builder.proofs.Calls.{failed_as}
+use Rattle.clif_builder.proofs.GoingOn.{goes_as, goes_nowhere}
+use Rattle.clif_builder.proofs.UsedAlike.{refused, refused_error, tried, tried_error}
 use Rattle.clif_builder.proofs.builder.FunctionBuilder.try_use_var.Goals as goal
 
 -- a variable that has a type is declared
@@ -14,6 +18,10 @@ declared types variable typed = by (slice_get types variable) refl typed
     by : (o : Option «Type») → slice_get types variable ≡ o → is_some o ≡ true → variable < length types
     by None at typed = let no_way : ⊥ = cc in absurd no_way
     by (Some ty) at typed = slice_get_within types variable ty at
+
+undeclared : (o : Option «Type») → is_some o ≡ false → o ≡ None
+undeclared None is = refl
+undeclared (Some ty) is = let no_way : ⊥ = cc in absurd no_way
 
 pub use_var-requires-clause-declared : goal.use_var-requires-clause-declared
 use_var-requires-clause-declared g c = declared c.args.self.now.ctx.now.parts.variables c.args.variable (sym c.is_declared.ensures ∙ c.if-not-is_declared.false)
@@ -41,13 +49,44 @@ returns-in_err-value-clause-call g c =
     let p = err_from_is_err_and c.from_residual-in_err-value.result c.from_residual-in_err-value.ensures.1 in
     failed_as c.args.self.now c.use_var.new.self c.use_var.result c.from_residual-in_err-value.result c.in_err-value.field-0.0 p.0 c.in_err-value.was p.1 p.2 c.use_var.ensures.call
 
-pub returns-in_err-value-clause-full : goal.returns-in_err-value-clause-full
-returns-in_err-value-clause-full g c = λ ty is full.
+-- WHAT IS USED --------------------------------------------------------------------------------------------------------------
+
+pub returns-in_err-ensure_inserted_block-clause-used : goal.returns-in_err-ensure_inserted_block-clause-used
+returns-in_err-ensure_inserted_block-clause-used g c =
+    let p = err_from_is_err_and c.from_residual.result c.from_residual.ensures.1 in
+    let none : slice_get c.args.self.now.ctx.now.parts.variables c.args.variable ≡ None = undeclared _ (sym c.is_declared.ensures ∙ c.if-not-is_declared.true) in
+    rw p.1
+    (refused_error c.args.variable c.args.self.now c.ensure_inserted_block.new.self none c.ensure_inserted_block.ensures.variables p.0
+    (λ full. c.ensure_inserted_block.ensures.never_full (c.in_err-ensure_inserted_block.was ∙ ap Err (sym p.2 ∙ full))))
+
+pub returns-then-not-is_declared-clause-used : goal.returns-then-not-is_declared-clause-used
+returns-then-not-is_declared-clause-used g c =
+    let none : slice_get c.args.self.now.ctx.now.parts.variables c.args.variable ≡ None = undeclared _ (sym c.is_declared.ensures ∙ c.if-not-is_declared.true) in
+    refused c.args.variable c.args.self.now c.ensure_inserted_block.new.self none c.ensure_inserted_block.ensures.variables _
+    (λ b. ap (λ (s : SsaState). is_yes (sealed_of s b)) c.ensure_inserted_block.ensures.ssa) (λ calls agrees. c.in_ok-ensure_inserted_block.ensures.status)
+
+pub returns-in_err-value-clause-used : goal.returns-in_err-value-clause-used
+returns-in_err-value-clause-used g c =
     let p = err_from_is_err_and c.from_residual-in_err-value.result c.from_residual-in_err-value.ensures.1 in
-    c.use_var.ensures.full ty is (error_as c.use_var.result c.from_residual-in_err-value.result c.in_err-value.field-0.0 p.0 _ c.in_err-value.was p.1 p.2 full)
+    rw (p.1, p.2) (tried_error c.args.variable c.args.self.now c.use_var.new.self c.in_err-value.field-0.0 c.in_err-value.ensures.used)
 
-pub returns-in_err-value-clause-pools : goal.returns-in_err-value-clause-pools
-returns-in_err-value-clause-pools g c = c.use_var.ensures.pools
+pub returns-clause-used : goal.returns-clause-used
+returns-clause-used g c = tried c.args.variable c.args.self.now c.use_var.new.self c.in_ok-value.value c.in_ok-value.ensures.used
 
-pub returns-clause-pools : goal.returns-clause-pools
-returns-clause-pools g c = c.use_var.ensures.pools
+-- WHAT GOES ON --------------------------------------------------------------------------------------------------------------
+
+pub returns-clause-goes_on : goal.returns-clause-goes_on
+returns-clause-goes_on g c = goes_as (λ x b. Unit {0}) c.args.self.now c.use_var.new.self c.in_ok-value.value _ c.in_ok-value.ensures.goes_on
+
+pub returns-then-not-is_declared-clause-goes_on : goal.returns-then-not-is_declared-clause-goes_on
+returns-then-not-is_declared-clause-goes_on g c = goes_as (λ x b. Unit {0}) c.args.self.now c.ensure_inserted_block.new.self tt _ c.in_ok-ensure_inserted_block.ensures.goes_on
+
+pub returns-in_err-ensure_inserted_block-clause-goes_on : goal.returns-in_err-ensure_inserted_block-clause-goes_on
+returns-in_err-ensure_inserted_block-clause-goes_on g c =
+    let p = err_from_is_err_and c.from_residual.result c.from_residual.ensures.1 in
+    rw p.1 (goes_nowhere (λ x b. Unit {0}) c.args.self.now c.ensure_inserted_block.new.self p.0)
+
+pub returns-in_err-value-clause-goes_on : goal.returns-in_err-value-clause-goes_on
+returns-in_err-value-clause-goes_on g c =
+    let p = err_from_is_err_and c.from_residual-in_err-value.result c.from_residual-in_err-value.ensures.1 in
+    rw p.1 (goes_nowhere (λ x b. Unit {0}) c.args.self.now c.use_var.new.self p.0)
