@@ -2,6 +2,7 @@
 use Rattle.std.proofs.Common.{◌≡◌, ◌<◌, ◌≤◌, ◌+◌, ℕ, zero, suc, false, List, [], ◌∷◌, ◌++◌, length, map, refl, sym, ◌∙◌, ap, ap₂, subst, arith, append_assoc, append-nil, Some}
 use Rattle.std.specs.Prelude.{is_some, option_and_then, slice_get, slice_index_or, Result, Ok, Err, IfOk}
 use Rattle.std.specs.List.{AllZip}
+use Rattle.std.specs.Result.{IsErrAnd}
 use Rattle.std.proofs.lemmas.List.{length-append, map-append}
 use Rattle.std.proofs.lemmas.Slice.Zip.{AllZip-long}
 use Rattle.clif_types.specs.Signature.{SignatureShape}
@@ -15,8 +16,10 @@ use Rattle.clif_meaning.specs.Instruction.{Instruction}
 use Rattle.clif_meaning.specs.Ledger.{AValue, answers_to, value_answer_type}
 use Rattle.clif_meaning.specs.Name.{Name, answer_of}
 use Rattle.clif_meaning.specs.Request.{AnsweredCall, MakeEntry, Request, Script, script_of}
+use Rattle.clif_meaning.specs.Sizes.{Instructions, Table, Values, made_by, made_by_script, one_in, table_for}
 use Rattle.clif_simulation.proofs.LedgerValues.{type_new}
 use Rattle.clif_builder.specs.declared.builder.FunctionBuilder.{FunctionBuilder}
+use Rattle.clif_builder.specs.Adding.{AddsAtMost, instruction_makes}
 use Rattle.clif_builder.specs.Builder.{HasCurrent}
 use Rattle.clif_builder.specs.Built.{Builds, BuildsValue, numbers_of, numbers_with}
 use Rattle.clif_builder.specs.Calls.{answered}
@@ -24,6 +27,7 @@ use Rattle.clif_builder.specs.Entries.{MakesEntry}
 use Rattle.clif_builder.specs.Ledger.{NamesValue, ledger_of}
 use Rattle.clif_builder.specs.LedgerLaws.{AsksForShape, LedgerIsReadByNumber}
 use Rattle.clif_builder.specs.StandsFor.{StandsFor}
+use Rattle.clif_builder.proofs.Adding.{adds_err, adds_fewer, adds_none, adds_ok, adds_then, built_adds, entry_adds, value_adds}
 use Rattle.clif_builder.proofs.Lasting.{value-stays}
 use Rattle.clif_constant_calls.proofs.Standing.{stands_on}
 use Rattle.clif_expansion.specs.Emission.{building}
@@ -85,6 +89,20 @@ named_last calls request ty inst value numbers gives =
       is_value = ap is_some (type_new calls call 1 ∙ ap value_answer_type gives);
     }
 
+-- SIZES -------------------------------------------------------------------------------------------------------------------
+
+-- scripts one behind the other make what both make
+pub both_fit : (first next : Script) (table : Table) → made_by_script first table + made_by_script next table ≤ made_by_script (first ++ next) table
+both_fit [] next table = omega arith
+both_fit (request ∷ first) next table = let rest = both_fit first next table in omega (arith, rest)
+
+-- an instruction with so many results makes no more than a call that says so, and others behind it
+pub call_fits : (results : ℕ) (request : Request) (rest : Script) → results ≤ made_by request Values → 1 ≤ made_by request Instructions
+    → (table : Table) → instruction_makes results table ≤ made_by_script (request ∷ rest) table
+call_fits results request rest values instructions Values = omega (arith, values)
+call_fits results request rest values instructions Instructions = omega (arith, instructions)
+call_fits results request rest values instructions _ = omega arith
+
 -- ONE BEHIND THE OTHER ----------------------------------------------------------------------------------------------------
 
 -- calls behind calls, with what the later ones answer, or with what all answer
@@ -127,11 +145,17 @@ module _ {R : Type 0} (signature : SignatureShape) (calls : List AnsweredCall) (
 module _ {A B : Type 0} {R : Type 0} (reads : LedgerIsReadByNumber) (old mid new : FunctionBuilder R) (operands : List ℕ) (p : Requests) (g : Results) (values : A → List ℕ) (a : A)
     (first : Makes operands p g values old mid (Ok a)) (q : Requests) (h : Results) (later : B → List ℕ) where
   -- calls on what was answered and on the operands, behind those that answered it
-  pub makes_then : (answer : Result B BuildError) → Makes (values a ++ operands) q h later mid new answer
+  pub makes_then : ((place : ℕ) (names : List Name) → length (g place names) ≡ length (values a)) → (answer : Result B BuildError) → Makes (values a ++ operands) q h later mid new answer
       → Makes operands (λ place names. p place names ++ q (place + length (p place names)) (g place names ++ names))
       (λ place names. h (place + length (p place names)) (g place names ++ names)) later old new answer
-  makes_then answer next = record {
+  makes_then many answer next = record {
     line = line_on old mid new a answer first.line next.line;
+    most = λ place names long.
+        adds_then (made_by_script (p place names)) (made_by_script (q (place + length (p place names)) (g place names ++ names)))
+        (made_by_script (p place names ++ q (place + length (p place names)) (g place names ++ names))) old mid new a answer
+        (λ table. both_fit (p place names) (q (place + length (p place names)) (g place names ++ names)) table) (first.most place names long)
+        (next.most (place + length (p place names)) (g place names ++ names)
+        (let named = length-append (g place names) names in let whole = length-append (values a) operands in let each = many place names in omega (arith, named, whole, each, long)));
     stands = λ signature calls names stands named.
         let one = first.stands signature calls names stands named in
         behind signature calls names one answer (next.stands signature (calls ++ one.added) (g (length calls) names ++ names) one.stands
@@ -153,6 +177,10 @@ module _ {A B : Type 0} {R : Type 0} (reads : LedgerIsReadByNumber) (old mid new
       → Makes operands (λ place names. p place names ++ q (place + length (p place names)) names) (λ place names. g place names ++ h (place + length (p place names)) names) all old new (Ok c)
   makes_push b c all same next = record {
     line = line_ok old new b c (line_on old mid new a (Ok b) first.line next.line);
+    most = λ place names long.
+        adds_ok (made_by_script (p place names ++ q (place + length (p place names)) names)) old new b c
+        (adds_then (made_by_script (p place names)) (made_by_script (q (place + length (p place names)) names)) (made_by_script (p place names ++ q (place + length (p place names)) names)) old mid new a (Ok b)
+        (λ table. both_fit (p place names) (q (place + length (p place names)) names) table) (first.most place names long) (next.most (place + length (p place names)) names long));
     stands = λ signature calls names stands named.
         let one = first.stands signature calls names stands named in
         let two = next.stands signature (calls ++ one.added) names one.stands (zip_stays reads signature calls one.added old mid names operands stands one.stands named) in
@@ -163,10 +191,12 @@ module _ {A B : Type 0} {R : Type 0} (reads : LedgerIsReadByNumber) (old mid new
 module _ {A : Type 0} {R : Type 0} (old new : FunctionBuilder R) (operands : List ℕ) (p : Requests) (g : Results) (values : A → List ℕ) (answer : Result A BuildError) (makes : Makes operands p g values old new answer) where
   -- on operands among others
   pub makes_from : (others : List ℕ) (pick : List Name → List Name)
+      → ((names : List Name) → length names ≡ length others → length (pick names) ≡ length operands)
       → ((calls : List AnsweredCall) (names : List Name) → AllZip (NamesValue calls) names others → AllZip (NamesValue calls) (pick names) operands)
       → Makes others (λ place names. p place (pick names)) (λ place names. g place (pick names)) values old new answer
-  makes_from others pick picks = record {
+  makes_from others pick many picks = record {
     line = makes.line;
+    most = λ place names long. makes.most place (pick names) (many names long);
     stands = λ signature calls names stands named. makes.stands signature calls (pick names) stands (picks calls names named);
   }
 
@@ -175,6 +205,7 @@ module _ {A : Type 0} {R : Type 0} (old new : FunctionBuilder R) (operands : Lis
       → Makes operands q h values old new answer
   makes_as q h same = record {
     line = makes.line;
+    most = λ place names long. subst (λ (s : Script). AddsAtMost (made_by_script s) old new answer) (same place names long).0 (makes.most place names long);
     stands = λ signature calls names stands named.
         let is = same (length calls) names (zip_long (NamesValue calls) names operands named) in
         subst (λ (s : Script). IfOk answer (λ a. StandsOn signature calls s (h (length calls) names) (values a) new)) is.0
@@ -183,17 +214,22 @@ module _ {A : Type 0} {R : Type 0} (old new : FunctionBuilder R) (operands : Lis
   }
 
 -- it failed
-pub makes_failed : {A B : Type 0} {R : Type 0} (old new : FunctionBuilder R) (operands : List ℕ) (p : Requests) (g : Results) (values : B → List ℕ) (r : Result B BuildError) (e y : BuildError)
-    → InLine {A = A} old new (Err e) → r ≡ Err y → y ≡ e → Makes operands p g values old new r
-makes_failed old new operands p g values r e y line is same =
-    subst (λ (answer : Result _ BuildError). Makes operands p g values old new answer) (sym (is ∙ ap Err same))
-    (record { line = line_err old new e line; stands = λ signature calls names stands named. tt })
+pub makes_failed : {A B : Type 0} {R : Type 0} (old new : FunctionBuilder R) (operands : List ℕ) (p : Requests) (g : Results) (values : B → List ℕ) (r : Result B BuildError) (e : BuildError)
+    → InLine {A = A} old new (Err e) → ((place : ℕ) (names : List Name) → length names ≡ length operands → AddsAtMost {A = A} (made_by_script (p place names)) old new (Err e)) → IsErrAnd r (λ y. y ≡ e)
+    → Makes operands p g values old new r
+makes_failed old new operands p g values (Ok b) e line adds is = absurd is
+makes_failed {A} {B} old new operands p g values (Err y) e line adds is = record {
+  line = subst (λ (error : BuildError). InLine {A = B} old new (Err error)) (sym is) (line_err old new e line);
+  stands = λ signature calls names stands named. tt;
+  most = λ place names long. adds_err {A = A} (made_by_script (p place names)) old new e (Err y) is (adds place names long);
+}
 
 -- nothing was called
 pub makes_none : {A : Type 0} {R : Type 0} (b : FunctionBuilder R) (operands : List ℕ) (a : A) (values : A → List ℕ) → values a ≡ [] → b.failed ≡ false → HasCurrent b
     → Makes operands (λ place names. []) no_results values b b (Ok a)
 makes_none b operands a values none sound current = record {
   line = line_none b a sound current;
+  most = λ place names long. adds_none (λ table. 0) b (Ok a);
   stands = λ signature calls names stands named.
       record {
         added = [];
@@ -213,6 +249,9 @@ module _ {R : Type 0} (operands : List ℕ) (old new : FunctionBuilder R) (shape
       → BuildsValue old new shape ty answer → Makes operands (λ place names. building (instruction names) ∷ []) (λ place names. answer_of place 1 ∷ []) one_value old new answer
   value_makes instruction given gives asks builds = record {
     line = value_line old new shape ty answer current builds;
+    most = λ place names long.
+        adds_fewer (instruction_makes 1) (made_by_script (building (instruction names) ∷ [])) old new answer
+        (call_fits 1 (building (instruction names)) [] (let one = ap length (gives names) in omega (arith, one)) (omega arith)) (value_adds old new shape ty answer builds);
     stands = λ signature calls names stands named. by answer builds signature calls names stands (asks signature calls names stands named);
   }
     where
@@ -233,11 +272,15 @@ module _ {R : Type 0} (operands : List ℕ) (old new : FunctionBuilder R) (shape
 
   -- an instruction whose results aren't
   pub inst_makes : (request : List Name → Request) → is_branch shape ≡ false → is_terminator shape ≡ false → count_of_results old.func.now.tables shape ≤ 1
+      → ((names : List Name) → count_of_results old.func.now.tables shape ≤ made_by (request names) Values) → ((names : List Name) → 1 ≤ made_by (request names) Instructions)
       → ((signature : SignatureShape) (calls : List AnsweredCall) (names : List Name) → StandsFor signature calls old → AllZip (NamesValue calls) names operands
       → AsksForShape calls old.func.now (request names) shape ty)
       → Builds old new shape ty answer → Makes operands (λ place names. request names ∷ []) no_results (λ inst. []) old new answer
-  inst_makes request stays goes few asks builds = record {
+  inst_makes request stays goes few results one asks builds = record {
     line = inst_line old new shape ty answer current stays goes few builds;
+    most = λ place names long.
+        adds_fewer (instruction_makes (count_of_results old.func.now.tables shape)) (made_by_script (request names ∷ [])) old new answer
+        (call_fits (count_of_results old.func.now.tables shape) (request names) [] (results names) (one names)) (built_adds old new shape ty answer current builds);
     stands = λ signature calls names stands named. by answer builds signature calls names stands (asks signature calls names stands named);
   }
     where
@@ -256,6 +299,8 @@ pub entry_makes : {R : Type 0} (entry : TableEntry) (old new : FunctionBuilder R
     → Makes [] (λ place names. MakeEntry entry ∷ []) no_results (λ number. []) old new answer
 entry_makes entry old new answer imports current makes = record {
   line = entry_line entry old new answer imports current makes;
+  most = λ place names long.
+      adds_fewer (one_in (table_for entry)) (made_by_script (MakeEntry entry ∷ [])) old new answer (λ table. omega arith) (entry_adds entry old new answer makes);
   stands = λ signature calls names stands named. by signature calls answer (makes.told.stands signature calls stands tt);
 }
   where
@@ -269,6 +314,7 @@ pub makes_ok : {A B : Type 0} {R : Type 0} (old new : FunctionBuilder R) (operan
     → Makes operands p g values old new (Ok a) → Makes operands p g others old new (Ok b)
 makes_ok old new operands p g a values b others same makes = record {
   line = line_ok old new a b makes.line;
+  most = λ place names long. adds_ok (made_by_script (p place names)) old new a b (makes.most place names long);
   stands = λ signature calls names stands named.
       subst (λ (vs : List ℕ). StandsOn signature calls (p (length calls) names) (g (length calls) names) vs new) (sym same) (makes.stands signature calls names stands named);
 }

@@ -21,10 +21,12 @@ use Rattle.clif_meaning.specs.ByteOperation.{ByteOperation, CallLibrary, Compare
 use Rattle.clif_meaning.specs.Instruction.{Iconst}
 use Rattle.clif_meaning.specs.Name.{Name, answer_of}
 use Rattle.clif_meaning.specs.Request.{Script}
+use Rattle.clif_meaning.specs.Sizes.{made_by_script}
 use Rattle.clif_expansion.specs.Constants.{computing}
 use Rattle.clif_expansion.specs.Emission.{building}
 use Rattle.clif_builder.specs.declared.builder.FunctionBuilder.{FunctionBuilder}
 use Rattle.clif_builder.specs.Builder.{HasCurrent}
+use Rattle.clif_builder.proofs.Adding.{adds_none}
 use Rattle.clif_helper_calls.specs.Codes.{copy_flags, fill_flags, flags_where}
 use Rattle.clif_helper_calls.specs.LibraryCodes.{copying_function, i8}
 use Rattle.clif_helper_calls.specs.PieceStanding.{copy_instructions, fill_instructions, load_instructions, piece_names, store_instructions}
@@ -49,7 +51,7 @@ module _ {R : Type 0} (config : TargetFrontendConfig) (old new : FunctionBuilder
 
   -- the builder had failed
   pub failed_helps : (operation : ByteOperation) (operands : List ℕ) → old.failed ≡ true → Helps config operation operands old old (Err Failed)
-  failed_helps operation operands is = record { filling = pos 0; fills = tt; made = record { line = line_failed old is; stands = λ signature calls names stands named. tt } }
+  failed_helps operation operands is = record { filling = pos 0; fills = tt; made = record { line = line_failed old is; stands = λ signature calls names stands named. tt; most = λ place names long. adds_none (made_by_script (helper_calls config operation (pos 0) tables place names)) old (Err Failed) } }
 
   -- SIZES THAT ARE VALUES -----------------------------------------------------------------------------------------------
 

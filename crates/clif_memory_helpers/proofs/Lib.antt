@@ -4,7 +4,9 @@ mod Chains
 mod Pieces
 mod Loads
 mod LibraryCalls
+mod Stopped
 mod Plans
 mod Helped
 pub mod HelperLines
 pub mod StandingForCalls
+pub mod HelperSizes

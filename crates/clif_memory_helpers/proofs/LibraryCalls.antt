@@ -2,12 +2,14 @@
 use Rattle.std.proofs.Common.{◌≡◌, ◌<◌, ◌≤◌, inl, inr, ◌+◌, ◌-◌, ℕ, ℤ, suc, pos, true, false, Bool, List, [], ◌∷◌, ◌++◌, length, map, refl, sym, ◌∙◌, ap, ap₂, subst, arith, Some}
 use Rattle.std.specs.Prelude.{slice_get, slice_index_or, slice_index, if◌then◌else◌, IfOk, Result, Ok, Err}
 use Rattle.std.specs.List.{AllZip}
+use Rattle.std.specs.Result.{IsErrAnd}
 use Rattle.std.proofs.lemmas.List.{length-append, length-map}
 use Rattle.clif_opcodes.specs.declared.opcodes.ConvertOpcode.TheVariants.{Uextend}
 use Rattle.clif_types.specs.Signature.{SignatureShape}
 use Rattle.clif_types.specs.Target.{pointer_type_of}
 use Rattle.clif_types.specs.declared.condcodes.IntCC.{IntCC}
 use Rattle.clif_types.specs.declared.error.BuildError.{BuildError}
+use Rattle.clif_types.specs.declared.extfunc.AbiParam.{AbiParam}
 use Rattle.clif_types.specs.declared.extfunc.ExtFuncData.{ExtFuncData}
 use Rattle.clif_types.specs.declared.extname.ExternalName.{ExternalName}
 use Rattle.clif_types.specs.declared.libcall.LibCall.{LibCall}
@@ -28,7 +30,9 @@ use Rattle.clif_meaning.specs.Instruction.{Call, Compare, Convert, Iconst}
 use Rattle.clif_meaning.specs.Ledger.{AValue}
 use Rattle.clif_meaning.specs.Name.{Name, answer_of}
 use Rattle.clif_meaning.specs.Request.{AnsweredCall, Build, Imported, MakeEntry, Request, Script}
+use Rattle.clif_meaning.specs.Sizes.{Values, made_by, made_by_script}
 use Rattle.clif_builder.specs.declared.builder.FunctionBuilder.{FunctionBuilder}
+use Rattle.clif_builder.specs.Adding.{AddsAtMost}
 use Rattle.clif_builder.specs.Builder.{Appends, HasCurrent}
 use Rattle.clif_builder.specs.Built.{Builds, BuildsValue, numbers_of}
 use Rattle.clif_builder.specs.Calls.{answered}
@@ -36,6 +40,7 @@ use Rattle.clif_builder.specs.Entries.{MakesEntry}
 use Rattle.clif_builder.specs.Ledger.{NamesValue, NamesValues}
 use Rattle.clif_builder.specs.LedgerLaws.{AsksForShape, LedgerIsReadByNumber, RequestsAskForTheirShapes}
 use Rattle.clif_builder.specs.StandsFor.{StandsFor}
+use Rattle.clif_builder.proofs.Adding.{adds_ok}
 use Rattle.clif_builder.proofs.Framed.{appended-typed}
 use Rattle.clif_builder.proofs.Growing.{at_current, current_results}
 use Rattle.clif_constant_calls.proofs.Standing.{asks_at}
@@ -78,6 +83,11 @@ const_is old new imm held ty other r same is built =
 pub one_result : (tables : TableLists) (function : ℕ) (args : List ℕ) → GivesOne tables function → count_of_results tables (shapes.call function args) ≤ 1
 one_result tables function args gives = omega (arith, gives)
 
+-- as many as the call says
+call_results : (tables : TableLists) (function : ℕ) (args : List ℕ) (names : List Name) → count_of_results tables (shapes.call function args) ≤ made_by (call_request tables function names) Values
+call_results tables function args names =
+    let many = length-map (signature_at tables (function_at tables function).signature).returns (λ (param : AbiParam). param.value_type) in omega (arith, many)
+
 pub gives_one : (tables : TableLists) (function : ℕ) → GivesNumber tables function → GivesOne tables function
 gives_one tables function gives = sym (length-map (signature_at tables (function_at tables function).signature).returns _) ∙ ap length gives
 
@@ -87,7 +97,7 @@ module _ (reads : LedgerIsReadByNumber) (config : TargetFrontendConfig) (callee 
   abbrev signature : SignatureShape
   signature = library_signature config callee
 
-  imports_signature : IsImport (ASignature signature)
+  pub imports_signature : IsImport (ASignature signature)
   imports_signature = record { imports = λ t. refl; full = λ t most. inl most }
 
   imports_function : (s : ℕ) → IsImport (AFunction (library_function callee s))
@@ -99,7 +109,7 @@ module _ (reads : LedgerIsReadByNumber) (config : TargetFrontendConfig) (callee 
     number = number_is answer next.number;
     knows = known answer next.number next.function;
     made = makes_as old new [] _ _ (λ number. []) answer
-        (makes_then reads old mid new [] _ _ (λ number. []) s (entry_makes (ASignature signature) old mid (Ok s) imports_signature current first) _ _ (λ number. []) answer
+        (makes_then reads old mid new [] _ _ (λ number. []) s (entry_makes (ASignature signature) old mid (Ok s) imports_signature current first) _ _ (λ number. []) (λ place names. refl) answer
         (entry_makes (AFunction (library_function callee s)) mid new answer (imports_function s) (first.current current) next))
         (λ place names. imports config callee old.func.now.tables) no_results
         (λ place names long. (ap (λ (k : ℕ). MakeEntry (ASignature signature) ∷ MakeEntry (AFunction (library_function callee k)) ∷ []) first.number, refl));
@@ -137,10 +147,14 @@ module _ (reads : LedgerIsReadByNumber) (config : TargetFrontendConfig) (callee 
           }
 
   -- it failed
-  pub imports_failed : {A : Type 0} {R : Type 0} (old new : FunctionBuilder R) (r : Result ℕ BuildError) (e y : BuildError) → InLine {A = A} old new (Err e) → r ≡ Err y → y ≡ e → ImportsFunction config callee old new r
-  imports_failed old new r e y line is same =
-      subst (λ (answer : Result ℕ BuildError). ImportsFunction config callee old new answer) (sym (is ∙ ap Err same))
-      (record { number = tt; knows = tt; made = makes_failed old new [] _ _ (λ number. []) (Err e) e e line refl refl })
+  pub imports_failed : {A : Type 0} {R : Type 0} (old new : FunctionBuilder R) (r : Result ℕ BuildError) (e : BuildError) → InLine {A = A} old new (Err e)
+      → AddsAtMost {A = A} (made_by_script (imports config callee old.func.now.tables)) old new (Err e) → IsErrAnd r (λ y. y ≡ e) → ImportsFunction config callee old new r
+  imports_failed old new (Ok function) e line adds is = absurd is
+  imports_failed {A} old new (Err y) e line adds is = record {
+    number = tt;
+    knows = tt;
+    made = makes_failed {A = A} old new [] (λ place names. imports config callee old.func.now.tables) no_results (λ number. []) (Err y) e line (λ place names long. adds) is;
+  }
 
 -- the call as it is recorded
 pub call_is : (tables before : TableLists) (callee : LibCall) (signature : SignatureShape) (function : ℕ) (a b c : Name) → KnowsFunction tables callee signature function → function ≡ length before.functions
@@ -176,7 +190,7 @@ module _ (reads : LedgerIsReadByNumber) (asks : RequestsAskForTheirShapes) where
       → count_of_results old.func.now.tables (shapes.call function args) ≤ 1 → Builds old new (shapes.call function args) Invalid answer
       → Makes args (calls_function old.func.now.tables function) no_results (λ inst. []) old new answer
   call_made args function old new answer current few builds =
-      inst_makes args old new (shapes.call function args) Invalid answer current (call_request old.func.now.tables function) refl refl few (call_asked args function old) builds
+      inst_makes args old new (shapes.call function args) Invalid answer current (call_request old.func.now.tables function) refl refl few (call_results old.func.now.tables function args) (λ names. omega arith) (call_asked args function old) builds
 
   -- how many results a call for its number has
   pub number_is : {R : Type 0} (args : List ℕ) (function inst : ℕ) (old new : FunctionBuilder R) → HasCurrent old → GivesNumber old.func.now.tables function → Builds old new (shapes.call function args) Invalid (Ok inst)
@@ -190,6 +204,9 @@ module _ (reads : LedgerIsReadByNumber) (asks : RequestsAskForTheirShapes) where
   number_made args function inst v old new current gives builds is exists = record {
     typed = (exists, typed);
     made = record {
+      most = λ place names long.
+          adds_ok (made_by_script (call_request old.func.now.tables function names ∷ [])) old new inst v
+          ((call_made args function old new (Ok inst) current (one_result old.func.now.tables function args (gives_one old.func.now.tables function gives)) builds).most place names long);
       line = line_ok old new inst v (inst_line old new (shapes.call function args) Invalid (Ok inst) current refl refl (one_result old.func.now.tables function args (gives_one old.func.now.tables function gives)) builds);
       stands = λ signature calls names stands named.
           let asked = call_asked args function old signature calls names stands named in
@@ -219,7 +236,7 @@ module _ (reads : LedgerIsReadByNumber) (asks : RequestsAskForTheirShapes) where
 -- CALLS BEHIND IMPORTS ----------------------------------------------------------------------------------------------------
 
 -- what a line is in which a value is made
-knows_on : {R : Type 0} (old new : FunctionBuilder R) (shape : InstructionData) (ty : «Type») (v : ℕ) (callee : LibCall) (signature : SignatureShape) (function : ℕ) → HasCurrent old → BuildsValue old new shape ty (Ok v)
+pub knows_on : {R : Type 0} (old new : FunctionBuilder R) (shape : InstructionData) (ty : «Type») (v : ℕ) (callee : LibCall) (signature : SignatureShape) (function : ℕ) → HasCurrent old → BuildsValue old new shape ty (Ok v)
     → KnowsFunction old.func.now.tables callee signature function → KnowsFunction new.func.now.tables callee signature function
 knows_on old new shape ty v callee signature function current builds knows = subst (λ (t : TableLists). KnowsFunction t callee signature function) (sym (tables_kept old new shape ty v current builds)) knows
 
@@ -238,7 +255,7 @@ module _ (reads : LedgerIsReadByNumber) (asks : RequestsAskForTheirShapes) (conf
   imports_on : {R : Type 0} (callee : LibCall) (operands : List ℕ) (old mid : FunctionBuilder R) (f : ℕ) → ImportsFunction config callee old mid (Ok f)
       → Makes operands (λ place names. imports config callee old.func.now.tables) no_results (λ (number : ℕ). []) old mid (Ok f)
   imports_on callee operands old mid f imported =
-      makes_from old mid [] (λ place names. imports config callee old.func.now.tables) no_results (λ (number : ℕ). []) (Ok f) imported.made operands (λ names. []) (λ calls names named. tt)
+      makes_from old mid [] (λ place names. imports config callee old.func.now.tables) no_results (λ (number : ℕ). []) (Ok f) imported.made operands (λ names. []) (λ names long. refl) (λ calls names named. tt)
 
   -- a call on values
   module _ {A : Type 0} {R : Type 0} (callee : LibCall) (a b c f : ℕ) (old mid new : FunctionBuilder R) (answer : Result A BuildError) (values : A → List ℕ) (has : ImportsFunction config callee old mid (Ok f)) where
@@ -253,7 +270,7 @@ module _ (reads : LedgerIsReadByNumber) (asks : RequestsAskForTheirShapes) (conf
         → Makes (a ∷ b ∷ c ∷ []) (copies_sized config callee old.func.now.tables) later values old new answer
     sized_made h later same next =
         makes_as old new (a ∷ b ∷ c ∷ []) _ _ values answer
-        (makes_then reads old mid new (a ∷ b ∷ c ∷ []) _ _ (λ (number : ℕ). []) f (imports_on callee (a ∷ b ∷ c ∷ []) old mid f has) (calls_function mid.func.now.tables f) h values answer next)
+        (makes_then reads old mid new (a ∷ b ∷ c ∷ []) _ _ (λ (number : ℕ). []) f (imports_on callee (a ∷ b ∷ c ∷ []) old mid f has) (calls_function mid.func.now.tables f) h values (λ place names. refl) answer next)
         (copies_sized config callee old.func.now.tables) later (λ place names long. (sized_is place names long, same place names))
 
   -- a copy of a known size
@@ -263,10 +280,10 @@ module _ (reads : LedgerIsReadByNumber) (asks : RequestsAskForTheirShapes) (conf
       → Makes (t ∷ s ∷ []) (copies_known config callee size old.func.now.tables) no_results no_values old new answer
   copy_known_made callee size t s f z old mid one new answer current has built next =
       makes_as old new (t ∷ s ∷ []) _ _ no_values answer
-      (makes_then reads old mid new (t ∷ s ∷ []) _ _ (λ (number : ℕ). []) f (imports_on callee (t ∷ s ∷ []) old mid f has) _ _ no_values answer
+      (makes_then reads old mid new (t ∷ s ∷ []) _ _ (λ (number : ℕ). []) f (imports_on callee (t ∷ s ∷ []) old mid f has) _ _ no_values (λ place names. refl) answer
       (makes_then reads mid one new (t ∷ s ∷ []) _ _ one_value z (iconst_made reads asks (t ∷ s ∷ []) (size_constant size) pointer mid one (Ok z) current built)
-      (λ place names. calls_function one.func.now.tables f place (nth names 1 ∷ nth names 2 ∷ nth names 0 ∷ [])) (λ place names. []) no_values answer
-      (makes_from one new (t ∷ s ∷ z ∷ []) (calls_function one.func.now.tables f) no_results no_values answer next (z ∷ t ∷ s ∷ []) (λ names. nth names 1 ∷ nth names 2 ∷ nth names 0 ∷ []) picked)))
+      (λ place names. calls_function one.func.now.tables f place (nth names 1 ∷ nth names 2 ∷ nth names 0 ∷ [])) (λ place names. []) no_values (λ place names. refl) answer
+      (makes_from one new (t ∷ s ∷ z ∷ []) (calls_function one.func.now.tables f) no_results no_values answer next (z ∷ t ∷ s ∷ []) (λ names. nth names 1 ∷ nth names 2 ∷ nth names 0 ∷ []) (λ names long. refl) picked)))
       (copies_known config callee size old.func.now.tables) no_results (λ place names long. (two_names (IsKnown place) (each place) names long, refl))
     where
       picked : (calls : List AnsweredCall) (names : List Name) → AllZip (NamesValue calls) names (z ∷ t ∷ s ∷ []) → AllZip (NamesValue calls) (nth names 1 ∷ nth names 2 ∷ nth names 0 ∷ []) (t ∷ s ∷ z ∷ [])
@@ -309,10 +326,10 @@ module _ (reads : LedgerIsReadByNumber) (asks : RequestsAskForTheirShapes) (conf
       → Makes (t ∷ b ∷ z ∷ []) (fills_sized config old.func.now.tables) no_results no_values old new answer
   fill_sized_made t b z f w old mid one new answer current has built next =
       makes_as old new (t ∷ b ∷ z ∷ []) _ _ no_values answer
-      (makes_then reads old mid new (t ∷ b ∷ z ∷ []) _ _ (λ (number : ℕ). []) f (imports_on Memset (t ∷ b ∷ z ∷ []) old mid f has) _ _ no_values answer
+      (makes_then reads old mid new (t ∷ b ∷ z ∷ []) _ _ (λ (number : ℕ). []) f (imports_on Memset (t ∷ b ∷ z ∷ []) old mid f has) _ _ no_values (λ place names. refl) answer
       (makes_then reads mid one new (t ∷ b ∷ z ∷ []) _ _ one_value w (widened (t ∷ b ∷ z ∷ []) 1 b mid one (Ok w) (omega arith) refl current built)
-      (λ place names. calls_function one.func.now.tables f place (nth names 1 ∷ nth names 0 ∷ nth names 3 ∷ [])) (λ place names. []) no_values answer
-      (makes_from one new (t ∷ w ∷ z ∷ []) (calls_function one.func.now.tables f) no_results no_values answer next (w ∷ t ∷ b ∷ z ∷ []) (λ names. nth names 1 ∷ nth names 0 ∷ nth names 3 ∷ []) picked)))
+      (λ place names. calls_function one.func.now.tables f place (nth names 1 ∷ nth names 0 ∷ nth names 3 ∷ [])) (λ place names. []) no_values (λ place names. refl) answer
+      (makes_from one new (t ∷ w ∷ z ∷ []) (calls_function one.func.now.tables f) no_results no_values answer next (w ∷ t ∷ b ∷ z ∷ []) (λ names. nth names 1 ∷ nth names 0 ∷ nth names 3 ∷ []) (λ names long. refl) picked)))
       (fills_sized config old.func.now.tables) no_results (λ place names long. (three_names (IsSized place) (each place) names long, refl))
     where
       picked : (calls : List AnsweredCall) (names : List Name) → AllZip (NamesValue calls) names (w ∷ t ∷ b ∷ z ∷ []) → AllZip (NamesValue calls) (nth names 1 ∷ nth names 0 ∷ nth names 3 ∷ []) (t ∷ w ∷ z ∷ [])
@@ -345,12 +362,12 @@ module _ (reads : LedgerIsReadByNumber) (asks : RequestsAskForTheirShapes) (conf
       → Makes (t ∷ []) (fills_known config byte size old.func.now.tables) no_results no_values old new answer
   fill_known_made byte size t f b z w old mid one two three new answer current has byte_built size_built wide_built next =
       makes_as old new (t ∷ []) _ _ no_values answer
-      (makes_then reads old mid new (t ∷ []) _ _ (λ (number : ℕ). []) f (imports_on Memset (t ∷ []) old mid f has) _ _ no_values answer
-      (makes_then reads mid one new (t ∷ []) _ _ one_value b (iconst_made reads asks (t ∷ []) (pos byte) i8 mid one (Ok b) current byte_built) _ _ no_values answer
-      (makes_then reads one two new (b ∷ t ∷ []) _ _ one_value z (iconst_made reads asks (b ∷ t ∷ []) (size_constant size) pointer one two (Ok z) byte_built.current size_built) _ _ no_values answer
+      (makes_then reads old mid new (t ∷ []) _ _ (λ (number : ℕ). []) f (imports_on Memset (t ∷ []) old mid f has) _ _ no_values (λ place names. refl) answer
+      (makes_then reads mid one new (t ∷ []) _ _ one_value b (iconst_made reads asks (t ∷ []) (pos byte) i8 mid one (Ok b) current byte_built) _ _ no_values (λ place names. refl) answer
+      (makes_then reads one two new (b ∷ t ∷ []) _ _ one_value z (iconst_made reads asks (b ∷ t ∷ []) (size_constant size) pointer one two (Ok z) byte_built.current size_built) _ _ no_values (λ place names. refl) answer
       (makes_then reads two three new (z ∷ b ∷ t ∷ []) _ _ one_value w (widened (z ∷ b ∷ t ∷ []) 1 b two three (Ok w) (omega arith) refl size_built.current wide_built)
-      (λ place names. calls_function three.func.now.tables f place (nth names 3 ∷ nth names 0 ∷ nth names 1 ∷ [])) (λ place names. []) no_values answer
-      (makes_from three new (t ∷ w ∷ z ∷ []) (calls_function three.func.now.tables f) no_results no_values answer next (w ∷ z ∷ b ∷ t ∷ []) (λ names. nth names 3 ∷ nth names 0 ∷ nth names 1 ∷ []) picked)))))
+      (λ place names. calls_function three.func.now.tables f place (nth names 3 ∷ nth names 0 ∷ nth names 1 ∷ [])) (λ place names. []) no_values (λ place names. refl) answer
+      (makes_from three new (t ∷ w ∷ z ∷ []) (calls_function three.func.now.tables f) no_results no_values answer next (w ∷ z ∷ b ∷ t ∷ []) (λ names. nth names 3 ∷ nth names 0 ∷ nth names 1 ∷ []) (λ names long. refl) picked)))))
       (fills_known config byte size old.func.now.tables) no_results (λ place names long. (one_name (IsFilled place) (each place) names long, refl))
     where
       picked : (calls : List AnsweredCall) (names : List Name) → AllZip (NamesValue calls) names (w ∷ z ∷ b ∷ t ∷ []) → AllZip (NamesValue calls) (nth names 3 ∷ nth names 0 ∷ nth names 1 ∷ []) (t ∷ w ∷ z ∷ [])
@@ -397,12 +414,12 @@ module _ (reads : LedgerIsReadByNumber) (asks : RequestsAskForTheirShapes) (conf
       → Makes (l ∷ r ∷ []) (compares_known config condition size old.func.now.tables) (last_result (compares_known config condition size old.func.now.tables)) one_value old new answer
   compare_known_made condition size l r f z o n old mid one two three new answer current has size_built called zero_built last_built =
       makes_as old new (l ∷ r ∷ []) _ _ one_value answer
-      (makes_then reads old mid new (l ∷ r ∷ []) _ _ (λ (number : ℕ). []) f (imports_on Memcmp (l ∷ r ∷ []) old mid f has) _ _ one_value answer
-      (makes_then reads mid one new (l ∷ r ∷ []) _ _ one_value z (iconst_made reads asks (l ∷ r ∷ []) (size_constant size) pointer mid one (Ok z) current size_built) _ _ one_value answer
+      (makes_then reads old mid new (l ∷ r ∷ []) _ _ (λ (number : ℕ). []) f (imports_on Memcmp (l ∷ r ∷ []) old mid f has) _ _ one_value (λ place names. refl) answer
+      (makes_then reads mid one new (l ∷ r ∷ []) _ _ one_value z (iconst_made reads asks (l ∷ r ∷ []) (size_constant size) pointer mid one (Ok z) current size_built) _ _ one_value (λ place names. refl) answer
       (makes_then reads one two new (z ∷ l ∷ r ∷ []) (λ place names. calls_function one.func.now.tables f place (nth names 1 ∷ nth names 2 ∷ nth names 0 ∷ [])) (λ place names. answer_of place 1 ∷ []) one_value o
-      (makes_from one two (l ∷ r ∷ z ∷ []) (calls_function one.func.now.tables f) (λ place names. answer_of place 1 ∷ []) one_value (Ok o) called.made (z ∷ l ∷ r ∷ []) (λ names. nth names 1 ∷ nth names 2 ∷ nth names 0 ∷ []) picked)
-      _ _ one_value answer
-      (makes_then reads two three new (o ∷ z ∷ l ∷ r ∷ []) _ _ one_value n (iconst_made reads asks (o ∷ z ∷ l ∷ r ∷ []) (pos 0) i32 two three (Ok n) called.made.line.current zero_built) _ _ one_value answer
+      (makes_from one two (l ∷ r ∷ z ∷ []) (calls_function one.func.now.tables f) (λ place names. answer_of place 1 ∷ []) one_value (Ok o) called.made (z ∷ l ∷ r ∷ []) (λ names. nth names 1 ∷ nth names 2 ∷ nth names 0 ∷ []) (λ names long. refl) picked)
+      _ _ one_value (λ place names. refl) answer
+      (makes_then reads two three new (o ∷ z ∷ l ∷ r ∷ []) _ _ one_value n (iconst_made reads asks (o ∷ z ∷ l ∷ r ∷ []) (pos 0) i32 two three (Ok n) called.made.line.current zero_built) _ _ one_value (λ place names. refl) answer
       (compare_made reads asks (n ∷ o ∷ z ∷ l ∷ r ∷ []) 1 0 o n condition i32 three new answer (omega arith) (omega arith) refl refl kept zero_built.current last_built)))))
       (compares_known config condition size old.func.now.tables) (last_result (compares_known config condition size old.func.now.tables))
       (λ place names long. two_names (AreCompared place) (each place) names long)
@@ -447,10 +464,3 @@ module _ (reads : LedgerIsReadByNumber) (asks : RequestsAskForTheirShapes) (conf
                 ∙ ap (λ (k : ℕ). Written (behind_imports place) (suc (behind_imports place)) k x y) s,
             ap (λ (k : ℕ). answer_of k 1 ∷ []) t,
           )
-
--- a value that isn't made
-pub typed_failed : {A : Type 0} {R : Type 0} (ty : «Type») (old new : FunctionBuilder R) (operands : List ℕ) (p : Requests) (g : Results) (r : Result ℕ BuildError) (e y : BuildError)
-    → InLine {A = A} old new (Err e) → r ≡ Err y → y ≡ e → MakesTyped ty operands p g old new r
-typed_failed ty old new operands p g r e y line is same =
-    subst (λ (answer : Result ℕ BuildError). MakesTyped ty operands p g old new answer) (sym (is ∙ ap Err same))
-    (record { typed = tt; made = makes_failed old new operands p g one_value (Err e) e e line refl refl })

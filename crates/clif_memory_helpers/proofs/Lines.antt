@@ -17,7 +17,7 @@ use Rattle.clif_tables.specs.Lists.{TableLists}
 use Rattle.clif_builder.specs.declared.builder.FunctionBuilder.{FunctionBuilder}
 use Rattle.clif_builder.specs.declared.context.BlockStatus.TheVariants.{Filled}
 use Rattle.clif_builder.specs.Builder.{FillsCurrent, HasCurrent, IsLeft}
-use Rattle.clif_builder.specs.Built.{Builds, BuildsValue, HasFullTable}
+use Rattle.clif_builder.specs.Built.{Builds, BuildsValue, HasFullTable, OnlyLaidOut}
 use Rattle.clif_builder.specs.Context.{ContextState, FillsNone, status_of}
 use Rattle.clif_builder.specs.Entries.{MakesEntry}
 use Rattle.clif_builder.specs.Growth.{Grows, RemembersIn, TypesStay}
@@ -35,9 +35,9 @@ failed_not_full : {A : Type 0} {P : Type 0} → ◌≡◌ {A = Result A BuildErr
 failed_not_full same = cc
 
 -- a full table is one that a helper needs
-full_of : {R : Type 0} (old new : FunctionBuilder R) → HasFullTable old → (new.func.now.insts ≡ old.func.now.insts) × (new.func.now.values ≡ old.func.now.values) → HelperIsFull new
-full_of old new (inl full) stays = inl (inl (ap length stays.0 ∙ full))
-full_of old new (inr full) stays = inl (inr (ap length stays.1 ∙ full))
+full_of : {R : Type 0} (old new : FunctionBuilder R) → HasFullTable old → OnlyLaidOut old.func.now new.func.now → HelperIsFull new
+full_of old new (inl full) stays = inl (inl (ap (λ (f : Body). length f.insts) stays ∙ full))
+full_of old new (inr full) stays = inl (inr (ap (λ (f : Body). length f.values) stays ∙ full))
 
 both : {A : Type 0} (P Q R : Type 0) (r : Result A BuildError) → (P → Q → R) → P → OnOk r Q → OnOk r R
 both P Q R (Ok b) make p q = make p q

@@ -2,7 +2,7 @@
 use Rattle.std.proofs.Common.{◌≡◌, ◌<◌, ◌≤◌, ◌+◌, ℕ, zero, ℤ, suc, pos, List, [], ◌∷◌, ◌++◌, length, map, take, refl, sym, ◌∙◌, ap, subst, arith, add-one}
 use Rattle.std.specs.Prelude.{slice_index_or, replicate, Result, Ok, Err, IfOk}
 use Rattle.std.specs.List.{AllZip}
-use Rattle.std.proofs.lemmas.List.{map-append, take-replicate}
+use Rattle.std.proofs.lemmas.List.{length-append, length-replicate, length-take-le, map-append, take-replicate}
 use Rattle.clif_types.specs.MemFlags.{MemFlagsShape}
 use Rattle.clif_types.specs.Signature.{SignatureShape}
 use Rattle.clif_types.specs.declared.condcodes.IntCC.{IntCC}
@@ -92,11 +92,12 @@ module _ (reads : LedgerIsReadByNumber) (accesses : Accesses) (flags : MemFlagsS
       makes_as old new (target ∷ source ∷ []) _ _ no_values answer
       (makes_then reads old mid new (target ∷ source ∷ []) _ _ (λ (l : List ℕ). take count l) loaded
       (makes_from old mid (source ∷ []) (loads accesses flags count) (λ place names. piece_names place count) (λ (l : List ℕ). take count l) (Ok loaded) first.made
-      (target ∷ source ∷ []) (λ names. nth names 1 ∷ [])
+      (target ∷ source ∷ []) (λ names. nth names 1 ∷ []) (λ names two. refl)
       (λ calls names named. (nth_named (NamesValue calls) names (target ∷ source ∷ []) 1 named (omega arith), tt)))
-      (λ place names. stores accesses flags count place (nth names count ∷ take count names)) (λ place names. []) no_values answer
+      (λ place names. stores accesses flags count place (nth names count ∷ take count names)) (λ place names. []) no_values
+      (λ place names. names_long place count ∙ sym long ∙ ap (λ (xs : List ℕ). length xs) is) answer
       (makes_from mid new (target ∷ values) (stores accesses flags count) no_results no_values answer next
-      (take count loaded ++ target ∷ source ∷ []) (λ names. nth names count ∷ take count names) picked))
+      (take count loaded ++ target ∷ source ∷ []) (λ names. nth names count ∷ take count names) picked_long picked))
       (copied accesses flags) no_results (λ place names two. (two_names (IsCopied place) (each place) names two, refl))
     where
       IsCopied : ℕ → List Name → Type 0
@@ -104,6 +105,13 @@ module _ (reads : LedgerIsReadByNumber) (accesses : Accesses) (flags : MemFlagsS
           loads accesses flags count place (nth names 1 ∷ [])
           ++ stores accesses flags count (place + length (loads accesses flags count place (nth names 1 ∷ [])))
           (nth (piece_names place count ++ names) count ∷ take count (piece_names place count ++ names)) ≡ copied accesses flags place names
+
+      picked_long : (names : List Name) → length names ≡ length (take count loaded ++ target ∷ source ∷ []) → suc (length (take count names)) ≡ suc (length values)
+      picked_long names all =
+          let whole = length-append (take count loaded) (target ∷ source ∷ []) in
+          let front = ap (λ (xs : List ℕ). length xs) is in
+          let first = length-take-le count names (omega (arith, all, whole, front, long)) in
+          omega (arith, first, long)
 
       picked : (calls : List AnsweredCall) (names : List Name) → AllZip (NamesValue calls) names (take count loaded ++ target ∷ source ∷ [])
           → AllZip (NamesValue calls) (nth names count ∷ take count names) (target ∷ values)
@@ -167,13 +175,16 @@ module _ (reads : LedgerIsReadByNumber) (asks : RequestsAskForTheirShapes) where
   fill_made accesses flags imm target constant values old mid new answer is current first next =
       makes_as old new (target ∷ []) _ _ no_values answer
       (makes_then reads old mid new (target ∷ []) _ _ one_value constant (iconst_made (target ∷ []) imm accesses.ty old mid (Ok constant) current first)
-      (λ place names. stores accesses flags count place (nth names 1 ∷ replicate count (nth names 0))) (λ place names. []) no_values answer
+      (λ place names. stores accesses flags count place (nth names 1 ∷ replicate count (nth names 0))) (λ place names. []) no_values (λ place names. refl) answer
       (makes_from mid new (target ∷ values) (stores accesses flags count) no_results no_values answer next
-      (constant ∷ target ∷ []) (λ names. nth names 1 ∷ replicate count (nth names 0)) picked))
+      (constant ∷ target ∷ []) (λ names. nth names 1 ∷ replicate count (nth names 0)) picked_long picked))
       (filled accesses flags imm) no_results (λ place names one. (one_name (IsFilled place) (each place) names one, refl))
     where
       count : ℕ
       count = accesses.count
+
+      picked_long : (names : List Name) → length names ≡ 2 → suc (length (replicate count (nth names 0))) ≡ suc (length values)
+      picked_long names two = ap suc (length-replicate count (nth names 0) ∙ sym (length-replicate count constant) ∙ sym (ap (λ (xs : List ℕ). length xs) is))
 
       picked : (calls : List AnsweredCall) (names : List Name) → AllZip (NamesValue calls) names (constant ∷ target ∷ []) → AllZip (NamesValue calls) (nth names 1 ∷ replicate count (nth names 0)) (target ∷ values)
       picked calls names named = (
@@ -199,8 +210,8 @@ module _ (reads : LedgerIsReadByNumber) (asks : RequestsAskForTheirShapes) where
   loads_compared condition ty left_flags right_flags left right x y old one two new answer current first second third =
       let kept : HasType two x ty = (let inside = first.exists in let more = second.grows.0 in omega (arith, inside, more), second.types x first.exists ∙ first.typed) in
       makes_as old new (left ∷ right ∷ []) _ _ one_value answer
-      (makes_then reads old one new (left ∷ right ∷ []) _ _ one_value x (start_loaded (left ∷ right ∷ []) 0 left left_flags ty old one (Ok x) (omega arith) refl current first) _ _ one_value answer
-      (makes_then reads one two new (x ∷ left ∷ right ∷ []) _ _ one_value y (start_loaded (x ∷ left ∷ right ∷ []) 2 right right_flags ty one two (Ok y) (omega arith) refl first.current second) _ _ one_value answer
+      (makes_then reads old one new (left ∷ right ∷ []) _ _ one_value x (start_loaded (left ∷ right ∷ []) 0 left left_flags ty old one (Ok x) (omega arith) refl current first) _ _ one_value (λ place names. refl) answer
+      (makes_then reads one two new (x ∷ left ∷ right ∷ []) _ _ one_value y (start_loaded (x ∷ left ∷ right ∷ []) 2 right right_flags ty one two (Ok y) (omega arith) refl first.current second) _ _ one_value (λ place names. refl) answer
       (compare_made (y ∷ x ∷ left ∷ right ∷ []) 1 0 x y condition ty two new answer (omega arith) (omega arith) refl refl kept second.current third)))
       (compared condition ty left_flags right_flags) third_result (λ place names long. two_names (AreCompared place) (each place) names long)
     where

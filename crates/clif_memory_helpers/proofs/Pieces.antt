@@ -1,10 +1,12 @@
 -- Loads and stores of pieces, one behind another.
 use Rattle.std.proofs.Common.{◌≡◌, ◌<◌, ◌+◌, ◌*◌, ℕ, zero, suc, pos, List, [], ◌∷◌, ◌++◌, length, map, take, drop, refl, sym, ◌∙◌, ap, subst, arith, add-one}
-use Rattle.std.specs.Prelude.{slice_index_or, slice_set, Ok}
+use Rattle.std.specs.Prelude.{◌≤◌, ℤ, slice_index_or, slice_set, Result, Ok, Err}
 use Rattle.std.specs.List.{AllZip}
+use Rattle.std.specs.Result.{IsErrAnd}
 use Rattle.std.proofs.lemmas.List.{length-map, length-set, length-take-le, map_push, take_more, take_more_set}
 use Rattle.clif_types.specs.MemFlags.{MemFlagsShape}
 use Rattle.clif_types.specs.Signature.{SignatureShape}
+use Rattle.clif_types.specs.declared.error.BuildError.{BuildError}
 use Rattle.clif_types.specs.declared.types.«Type».{«Type»}
 use Rattle.clif_types.specs.declared.types.«Type».TheVariants.{Invalid}
 use Rattle.clif_access_plans.specs.declared.moving.Accesses.{Accesses}
@@ -12,19 +14,23 @@ use Rattle.clif_inst_builder.specs.Shapes as shapes
 use Rattle.clif_meaning.specs.Instruction.{Instruction, Load, Store}
 use Rattle.clif_meaning.specs.Name.{Name, answer_of}
 use Rattle.clif_meaning.specs.Request.{AnsweredCall}
+use Rattle.clif_meaning.specs.Sizes.{Table, made_by_script}
 use Rattle.clif_builder.specs.declared.builder.FunctionBuilder.{FunctionBuilder}
+use Rattle.clif_builder.specs.Adding.{instruction_makes}
 use Rattle.clif_builder.specs.Builder.{HasCurrent}
 use Rattle.clif_builder.specs.Built.{Builds, BuildsValue}
 use Rattle.clif_builder.specs.Ledger.{NamesValue}
 use Rattle.clif_builder.specs.LedgerLaws.{AsksForShape, LedgerIsReadByNumber, RequestsAskForTheirShapes}
 use Rattle.clif_builder.specs.StandsFor.{StandsFor}
+use Rattle.clif_builder.proofs.Adding.{adds_then, built_adds, value_adds}
 use Rattle.clif_constant_calls.proofs.Standing.{asks_at, type_at}
 use Rattle.clif_expansion.specs.Emission.{building}
 use Rattle.clif_helper_calls.specs.Codes.{doing}
 use Rattle.clif_helper_calls.specs.PieceStanding.{load_instructions, piece_names, store_instructions}
 use Rattle.clif_memory_helpers.specs.Lines.{HasType, InLine, Makes, no_results, no_values, nth, one_value}
 use Rattle.clif_memory_helpers.specs.Steps.{AllTyped, LoadsPieces, loads, stores}
-use Rattle.clif_memory_helpers.proofs.Chains.{inst_makes, makes_as, makes_push, nth_named, value_makes}
+use Rattle.clif_memory_helpers.proofs.Chains.{call_fits, inst_makes, makes_as, makes_failed, makes_push, nth_named, value_makes}
+use Rattle.clif_memory_helpers.proofs.Lines.{inst_line, line_on, value_line}
 
 -- LISTS -------------------------------------------------------------------------------------------------------------------
 
@@ -58,6 +64,26 @@ names_more place zero k is = let here : place ≡ k = omega (arith, is) in ap (�
 names_more place (suc count) k is =
     let later : k ≡ suc place + count = omega (arith, is) in
     ap (λ (rest : List Name). answer_of place 1 ∷ rest) (names_more (suc place) count k later)
+
+-- SIZES -------------------------------------------------------------------------------------------------------------------
+
+module _ (flags : MemFlagsShape) (ty : «Type») (bytes : ℕ) where
+  -- with some of the loads, or of the stores, there is room for one more
+  loads_fit : (source : Name) (number i count : ℕ) → i < count → (table : Table)
+      → made_by_script (map building (load_instructions flags ty bytes source number i)) table + instruction_makes 1 table ≤ made_by_script (map building (load_instructions flags ty bytes source number count)) table
+  loads_fit source number i zero less table = absurd (omega (arith, less))
+  loads_fit source number zero (suc count) less table =
+      let one = call_fits 1 (building (doing (Load flags (pos (number * bytes))) ty (source ∷ []))) (map building (load_instructions flags ty bytes source (suc number) count)) (omega arith) (omega arith) table in omega (arith, one)
+  loads_fit source number (suc i) (suc count) less table = let rest = loads_fit source (suc number) i count (omega (arith, less)) table in omega (arith, rest)
+
+  stores_fit : (target : Name) (number : ℕ) (names : List Name) (i count : ℕ) → i < count → count ≤ length names → (table : Table)
+      → made_by_script (map building (store_instructions flags ty bytes target number (take i names))) table + instruction_makes 0 table
+      ≤ made_by_script (map building (store_instructions flags ty bytes target number (take count names))) table
+  stores_fit target number names i zero less few table = absurd (omega (arith, less))
+  stores_fit target number [] i (suc count) less few table = absurd (omega (arith, few))
+  stores_fit target number (name ∷ names) zero (suc count) less few table =
+      let one = call_fits 0 (building (doing (Store flags (pos (number * bytes))) ty (name ∷ target ∷ []))) (map building (store_instructions flags ty bytes target (suc number) (take count names))) (omega arith) (omega arith) table in omega (arith, one)
+  stores_fit target number (name ∷ names) (suc i) (suc count) less few table = let rest = stores_fit target (suc number) names i count (omega (arith, less)) (omega (arith, few)) table in omega (arith, rest)
 
 -- TYPES -------------------------------------------------------------------------------------------------------------------
 
@@ -133,6 +159,33 @@ module _ (reads : LedgerIsReadByNumber) (asks : RequestsAskForTheirShapes) (acce
           let here : place + length (loads accesses flags i place names) ≡ place + i = omega (arith, long) in
           sym (ap (piece_names place) next ∙ names_more place i _ here)
 
+  -- one more isn't loaded
+  pub loads_stopped : {R : Type 0} (source i count : ℕ) (offset : ℤ) (loaded : List ℕ) (old mid new : FunctionBuilder R) (r : Result (List ℕ) BuildError) (e : BuildError) → i < count
+      → LoadsPieces accesses flags source i old mid (Ok loaded) → BuildsValue mid new (shapes.load flags source offset) ty (Err e) → IsErrAnd r (λ y. y ≡ e) → LoadsPieces accesses flags source count old new r
+  loads_stopped source i count offset loaded old mid new (Ok more) e less so builds is = absurd is
+  loads_stopped source i count offset loaded old mid new (Err y) e less so builds is = record {
+    many = tt;
+    typed = tt;
+    made = makes_failed {A = ℕ} old new (source ∷ []) (loads accesses flags count) (λ place names. piece_names place count) (λ (l : List ℕ). take count l) (Err y) e
+        (line_on old mid new loaded (Err e) so.made.line (value_line mid new (shapes.load flags source offset) ty (Err e) so.made.line.current builds))
+        (λ place names long. adds_then (made_by_script (loads accesses flags i place names)) (instruction_makes 1) (made_by_script (loads accesses flags count place names)) old mid new loaded (Err e)
+        (loads_fit flags ty bytes (nth names 0) 0 i count less) (so.made.most place names long) (value_adds mid new (shapes.load flags source offset) ty (Err e) builds)) is;
+  }
+
+  -- one more operand isn't stored
+  pub stores_stopped : {R : Type 0} (target : ℕ) (values : List ℕ) (i count v : ℕ) (offset : ℤ) (old mid new : FunctionBuilder R) (r : Result (Unit {0}) BuildError) (e : BuildError) → i < count → count ≡ length values
+      → Makes (target ∷ values) (stores accesses flags i) no_results no_values old mid (Ok tt) → Builds mid new (shapes.store flags v target offset) Invalid (Err e) → IsErrAnd r (λ y. y ≡ e)
+      → Makes (target ∷ values) (stores accesses flags count) no_results no_values old new r
+  stores_stopped target values i count v offset old mid new r e less all so builds is =
+      makes_failed {A = ℕ} old new (target ∷ values) (stores accesses flags count) no_results no_values r e
+      (line_on old mid new tt (Err e) so.line (inst_line mid new (shapes.store flags v target offset) Invalid (Err e) so.line.current refl refl (omega arith) builds))
+      (λ place names long. adds_then (made_by_script (stores accesses flags i place names)) (instruction_makes 0) (made_by_script (stores accesses flags count place names)) old mid new tt (Err e)
+      (stores_fit flags ty bytes (nth names 0) 0 (drop 1 names) i count less (enough names long)) (so.most place names long) (built_adds mid new (shapes.store flags v target offset) Invalid (Err e) so.line.current builds)) is
+    where
+      enough : (names : List Name) → length names ≡ suc (length values) → count ≤ length (drop 1 names)
+      enough [] long = absurd (omega (arith, long))
+      enough (name ∷ names) long = omega (arith, long, all)
+
   -- one more operand is stored
   pub stores_step : {R : Type 0} (target : ℕ) (values : List ℕ) (i n inst : ℕ) (old mid new : FunctionBuilder R) → n ≡ suc i → i < length values → AllTyped old ty values
       → Makes (target ∷ values) (stores accesses flags i) no_results no_values old mid (Ok tt)
@@ -143,7 +196,7 @@ module _ (reads : LedgerIsReadByNumber) (asks : RequestsAskForTheirShapes) (acce
       (makes_push reads old mid new (target ∷ values) (stores accesses flags i) no_results no_values tt so
       (λ place names. building (doing (Store flags (pos (i * bytes))) ty (nth names (suc i) ∷ nth names 0 ∷ [])) ∷ []) no_results (λ number. []) inst tt no_values refl
       (inst_makes (target ∷ values) mid new (shapes.store flags value target (pos (i * bytes))) Invalid (Ok inst) so.line.current
-      (λ names. building (doing (Store flags (pos (i * bytes))) ty (nth names (suc i) ∷ nth names 0 ∷ []))) refl refl (omega arith) asked builds))
+      (λ names. building (doing (Store flags (pos (i * bytes))) ty (nth names (suc i) ∷ nth names 0 ∷ []))) refl refl (omega arith) (λ names. omega arith) (λ names. omega arith) asked builds))
       (stores accesses flags n) no_results (λ place names long. (calls_are place names (ap-pred names long), refl))
     where
       value : ℕ

@@ -4,3 +4,4 @@ pub mod Lines
 pub mod Steps
 pub mod HelperLines
 pub mod Calls
+pub mod Sizes

@@ -9,7 +9,9 @@ use Rattle.clif_ir.specs.Body.{value_at}
 use Rattle.clif_tables.specs.Lists.{TableLists}
 use Rattle.clif_meaning.specs.Name.{Name, answer_of}
 use Rattle.clif_meaning.specs.Request.{AnsweredCall, Script, script_of}
+use Rattle.clif_meaning.specs.Sizes.{made_by_script}
 use Rattle.clif_builder.specs.declared.builder.FunctionBuilder.{FunctionBuilder}
+use Rattle.clif_builder.specs.Adding.{AddsAtMost}
 use Rattle.clif_builder.specs.Builder.{HasCurrent}
 use Rattle.clif_builder.specs.Built.{HasFullTable}
 use Rattle.clif_builder.specs.Calls.{IsCall}
@@ -63,11 +65,13 @@ abbrev pub Results : Type 0
 Results = (place : ℕ) (names : List Name) → List Name
 
 -- Calls were made in a line on these operands: where the builder stood for a list of calls, it stands for the list with these plain
--- calls at its end, and these names lead to what is answered.
+-- calls at its end, and these names lead to what is answered. Also where only some were made, the function has no more entries than
+-- they make.
 pub record Makes {A : Type 0} {R : Type 0} (operands : List ℕ) (made : Requests) (results : Results) (values : A → List ℕ) (old new : FunctionBuilder R) (answer : Result A BuildError) : Type 0 where
   pub line : InLine old new answer
   pub stands : (signature : SignatureShape) (calls : List AnsweredCall) (names : List Name) → StandsFor signature calls old → AllZip (NamesValue calls) names operands
       → IfOk answer (λ a. StandsOn signature calls (made (length calls) names) (results (length calls) names) (values a) new)
+  pub most : (place : ℕ) (names : List Name) → length names ≡ length operands → AddsAtMost (made_by_script (made place names)) old new answer
 
 -- nothing is answered
 abbrev pub no_results : Results

@@ -7,7 +7,7 @@ use Rattle.std.proofs.lemmas.List.Elements.{All-contains, All-contains_itself}
 use Rattle.clif_types.specs.Signature.{SignatureShape}
 use Rattle.clif_types.specs.Types.{greatest_of, is_int}
 use Rattle.clif_types.specs.declared.error.BuildError.{BuildError}
-use Rattle.clif_types.specs.declared.error.BuildError.TheVariants.{Failed, Full}
+use Rattle.clif_types.specs.declared.error.BuildError.TheVariants.{Failed, Full, Memory}
 use Rattle.clif_types.specs.declared.types.«Type».{«Type»}
 use Rattle.clif_ir.specs.Body.{value_at}
 use Rattle.clif_ranges.specs.declared.ranges.CaseRange.{CaseRange}
@@ -16,18 +16,23 @@ use Rattle.clif_ranges.specs.declared.error.SwitchError.{SwitchError}
 use Rattle.clif_ranges.specs.declared.error.SwitchError.TheVariants as switch_error
 use Rattle.clif_ranges.specs.Cases.{AreRangesFor, CaseMap, FitType, IsKeyTooWide, IsRefusal}
 use Rattle.clif_ranges.specs.Ranges.{AreFewest}
-use Rattle.clif_ranges.specs.Search.{AreInOrder, AreTestsOf, FindsCases}
+use Rattle.clif_ranges.specs.Search.{AreFew, AreInOrder, AreTestsOf, FindsCases}
 use Rattle.clif_meaning.specs.Ledger.{has_block, type_of}
 use Rattle.clif_meaning.specs.Program.{program_of}
-use Rattle.clif_meaning.specs.Name.{Name}
+use Rattle.clif_meaning.specs.Name.{Name, answer_of}
 use Rattle.clif_meaning.specs.Request.{AnsweredCall, Script, script_of}
+use Rattle.clif_meaning.specs.Sizes.{Table, made_by_script}
 use Rattle.clif_builder.specs.declared.builder.FunctionBuilder.{FunctionBuilder}
+use Rattle.clif_builder.specs.Adding.{AddsAtMost}
 use Rattle.clif_builder.specs.Ledger.{NamesBlock, NamesValue, block_name, ledger_of}
 use Rattle.clif_builder.specs.LedgerLaws.{LedgerIsReadByNumber, RequestsAskForTheirShapes}
 use Rattle.clif_builder.specs.StandsFor.{StandsFor}
+use Rattle.clif_builder.proofs.Adding.{adds_fewer, makes_same}
 use Rattle.clif_expansion.proofs.Placing.{contained_first, contained_in, contained_later}
 use Rattle.clif_switch_calls.specs.SwitchCalls.{Switched, nodes_calls}
 use Rattle.clif_switch_calls.specs.SwitchLaw.{MaySwitch, SearchesCases, SwitchCallsAreCode, case_edges, case_keys, switch_calls}
+use Rattle.clif_switch_calls.specs.SwitchSizes.{nodes_make, switch_makes}
+use Rattle.clif_switch_calls.proofs.Sized.{switch_calls_are_few}
 use Rattle.clif_expansion.specs.Switching.{IsSwitchCode}
 use Rattle.clif_switch.specs.Emission.{EndsBlock, MakesNodes, StandsAt, StandsOn, Steps, next_place, tables_at, tables_in}
 use Rattle.clif_switch.specs.Switches.{Emits, IsCodeOf, IsUnemitted, MayEmit, NamesSwitch}
@@ -60,8 +65,8 @@ no_key_error e ty max same = cc
 
 -- something failed as it was built
 pub failed_by : {R : Type 0} (cases : CaseMap) (value otherwise : ℕ) (old new : FunctionBuilder R) (e : BuildError) → ((max : ℕ) → old.failed ≡ false → IsKeyTooWide cases (value_at old.func.now value).ty max → ⊥)
-    → Steps {A = Unit {0}} old new (Err e) → Emits cases value otherwise old new (Err (switch_error.Build e))
-failed_by cases value otherwise old new e fits steps = record {
+    → Steps {A = Unit {0}} old new (Err e) → AddsAtMost {A = Unit {0}} (switch_makes (length (case_keys cases))) old new (Err e) → Emits cases value otherwise old new (Err (switch_error.Build e))
+failed_by cases value otherwise old new e fits steps most = record {
   loans = steps.loans;
   srcloc = steps.srcloc;
   failed = (λ is. steps.failed.0 (ap Err (same_error e Failed is)), λ is. ap (λ (y : BuildError). Err (switch_error.Build y)) (same_failure e Failed (steps.failed.1 is)));
@@ -76,6 +81,7 @@ failed_by cases value otherwise old new e fits steps = record {
   types = tt;
   exceptions = tt;
   full = λ is. steps.full (ap Err (same_error e Full is));
+  most = λ some. most (λ is. some (ap (λ (y : BuildError). Err (switch_error.Build y)) (same_failure e Memory is)));
   keeps = tt;
   adds = tt;
   tables = tt;
@@ -130,6 +136,7 @@ module _ {R : Type 0} (cases : CaseMap) (value otherwise : ℕ) (b : FunctionBui
     types = tt;
     exceptions = tt;
     full = λ is. absurd (not_full is);
+    most = λ some. makes_same (switch_makes (length (case_keys cases))) b.func.now b.func.now refl;
     keeps = tt;
     adds = tt;
     tables = tt;
@@ -198,9 +205,19 @@ mapped {X} f (y ∷ xs) x here =
       | inr further ↦ contained_later (f y) (map f xs) (f x) (later further)
     ]
 
+-- what all nodes make, by the number of keys
+pub few_made : {R : Type 0} (cases : CaseMap) (value : ℕ) (old new : FunctionBuilder R) (ranges : List CaseRange) (nodes : List Node) → AreRangesFor cases (value_at old.func.now value).ty ranges → FindsCases ranges nodes 0
+    → AreInOrder (0 ∷ []) 1 nodes → AreTestsOf ranges nodes → AreFew ranges nodes → (answer : Result (Unit {0}) BuildError) → AddsAtMost (nodes_make nodes) old new answer
+    → AddsAtMost (switch_makes (length (case_keys cases))) old new answer
+few_made cases value old new ranges nodes fits finds order tests small answer adds =
+    let any : Switched = record { ty = (value_at old.func.now value).ty; value = answer_of 0 0; otherwise = answer_of 0 0; named = λ block. answer_of 0 0 } in
+    adds_fewer (nodes_make nodes) (switch_makes (length (case_keys cases))) old new answer
+    (switch_calls_are_few any cases ranges nodes (record { ranges_for = fits; finds = finds; order = order; tests = tests }) small).nodes_few adds
+
 module _ {R : Type 0} (reads : LedgerIsReadByNumber) (asks : RequestsAskForTheirShapes) (codes : SwitchCallsAreCode)
     (cases : CaseMap) (value otherwise : ℕ) (old new : FunctionBuilder R) (ranges : List CaseRange) (nodes : List Node) (may : MayEmit cases value otherwise old)
-    (fits : AreRangesFor cases (value_at old.func.now value).ty ranges) (fewest : AreFewest ranges) (finds : FindsCases ranges nodes 0) (order : AreInOrder (0 ∷ []) 1 nodes) (tests : AreTestsOf ranges nodes) where
+    (fits : AreRangesFor cases (value_at old.func.now value).ty ranges) (fewest : AreFewest ranges) (finds : FindsCases ranges nodes 0) (order : AreInOrder (0 ∷ []) 1 nodes) (tests : AreTestsOf ranges nodes)
+    (small : AreFew ranges nodes) where
   abbrev entries : List (ℕ × ℕ)
   entries = finite.entries cases
 
@@ -280,14 +297,17 @@ module _ {R : Type 0} (reads : LedgerIsReadByNumber) (asks : RequestsAskForTheir
             ranges = ranges;
             ranges_for = searches.ranges_for;
             fewest = fewest;
+            most = λ table. subst (λ (more : Script). made_by_script more table ≤ switch_makes (length (case_keys cases)) table) (sym asked)
+                ((switch_calls_are_few s cases ranges nodes searches small).calls_few [] (length (ledger_of calls).jump_tables) (length (script_of calls)) table);
             code = λ k short. subst (λ (more : Script). IsSwitchCode (script_of calls) more block s.value s.ty (case_keys cases) (case_edges s cases) (k + 2) 1) (sym asked)
                 (codes (script_of calls) block s cases ranges nodes k may_switch searches short);
           },
         )
 
-  pub emitted : EndsBlock {A = Unit {0}} (tables_in nodes) old new done → MakesNodes (record { ty = (value_at old.func.now value).ty; val = value; otherwise = otherwise }) nodes old new done
+  pub emitted : EndsBlock {A = Unit {0}} (tables_in nodes) old new done → AddsAtMost (nodes_make nodes) old new done
+      → MakesNodes (record { ty = (value_at old.func.now value).ty; val = value; otherwise = otherwise }) nodes old new done
       → Emits cases value otherwise old new (Ok tt)
-  emitted ends makes = record {
+  emitted ends most makes = record {
     loans = ends.steps.loans;
     srcloc = ends.steps.srcloc;
     failed = (λ is. absurd (no_failure is), λ is. absurd (no_error (ends.steps.failed.1 is)));
@@ -302,6 +322,7 @@ module _ {R : Type 0} (reads : LedgerIsReadByNumber) (asks : RequestsAskForTheir
     types = ends.steps.types;
     exceptions = ends.steps.exceptions;
     full = λ is. absurd (no_full is);
+    most = λ some. few_made cases value old new ranges nodes fits finds order tests small (Ok tt) most (λ is. absurd (no_memory is));
     keeps = ends.steps.keeps;
     adds = ends.steps.adds;
     tables = ends.tables ∙ ap (λ (n : ℕ). old.func.now.tables.jump_tables ++ replicate n None) (tables_are entries ranges fits.ranges_of nodes tests);
@@ -311,6 +332,9 @@ module _ {R : Type 0} (reads : LedgerIsReadByNumber) (asks : RequestsAskForTheir
     stands = λ signature calls s block stands current named. stood signature calls s block stands current named makes;
   }
     where
+      no_memory : ◌≡◌ {A = Result (Unit {0}) BuildError} (Ok tt) (Err Memory) → ⊥
+      no_memory same = cc
+
       no_full : ◌≡◌ {A = Result (Unit {0}) SwitchError} (Ok tt) (Err (switch_error.Build Full)) → ⊥
       no_full same = cc
 

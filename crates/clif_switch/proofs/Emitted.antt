@@ -7,13 +7,19 @@ use Rattle.std.specs.Result.{IsErrAnd}
 use Rattle.std.specs.List.{AllByRecursion, AllZip}
 use Rattle.clif_types.specs.Signature.{SignatureShape}
 use Rattle.clif_types.specs.declared.error.BuildError.{BuildError}
+use Rattle.clif_types.specs.declared.error.BuildError.TheVariants.{Memory}
 use Rattle.clif_ranges.specs.declared.search.Node.{Node}
 use Rattle.clif_ranges.specs.Search.{AreInOrder, named_by}
 use Rattle.clif_meaning.specs.Name.{Name, answer_of}
 use Rattle.clif_meaning.specs.Request.{AnsweredCall, SealBlock, SwitchToBlock, Script}
 use Rattle.clif_builder.specs.declared.builder.FunctionBuilder.{FunctionBuilder}
+use Rattle.clif_meaning.specs.Sizes.{Table, entries_in}
+use Rattle.clif_builder.specs.Adding.{AddsAtMost}
 use Rattle.clif_builder.specs.Ledger.{NamesBlock}
+use Rattle.clif_builder.proofs.Adding.{adds_err}
 use Rattle.clif_switch_calls.specs.SwitchCalls.{Switched, blocks_of, blocks_with, entering, node_calls, nodes_calls, tables_of, test_calls}
+use Rattle.clif_switch_calls.specs.SwitchSizes.{nodes_make, so_many, test_makes}
+use Rattle.clif_switch_calls.proofs.Sized.{none_many}
 use Rattle.clif_switch.specs.Emission.{AddsBlocks, EndsBlock, HasItsBlock, IsEntered, IsOpenFor, IsSwitchedIn, LeavesBlocks, MakesEntry, MakesNodes, MakesTest, MayLead, ServesMore, StandsAt, StandsOn, Steps, cases_in, next_place, tables_at, tables_in}
 use Rattle.clif_switch.specs.declared.emission.SwitchedValue.{SwitchedValue}
 use Rattle.clif_switch.proofs.Blocks.{ends_failed, some_same}
@@ -39,6 +45,7 @@ pub record Emitted {R : Type 0} (switched : SwitchedValue) (nodes rest : List No
   pub count : ℕ
   pub counted : count + tables_in rest ≡ tables_in nodes
   pub ends : EndsBlock {A = Unit {0}} count old new done
+  pub most : (table : Table) → entries_in new.func.now table + nodes_make rest table ≤ entries_in old.func.now table + nodes_make nodes table
   pub waiting : List ℕ
   pub order : AreInOrder waiting (suc (length blocks)) rest
   pub waits : Waits (length old.func.now.blocks) (suc (length blocks)) new blocks waiting
@@ -47,6 +54,9 @@ pub record Emitted {R : Type 0} (switched : SwitchedValue) (nodes rest : List No
   pub made : (signature : SignatureShape) (calls : List AnsweredCall) (s : Switched) (cases : List ℕ) (plain : Script)
       (at : StandsAt signature calls s switched.val switched.otherwise cases plain old) → AllByRecursion (λ (node : Node). All (Contains cases) (cases_in node.test)) nodes
       → Between at nodes rest blocks new
+
+no_memory : ◌≡◌ {A = Result (Unit {0}) BuildError} (Ok tt) (Err Memory) → ⊥
+no_memory same = cc
 
 -- STEPS -------------------------------------------------------------------------------------------------------------------
 
@@ -139,7 +149,8 @@ module _ {R : Type 0} (switched : SwitchedValue) (nodes rest : List Node) (node 
 
     -- and its test was emitted
     module _ (last : FunctionBuilder R) (after : List ℕ) (ends : EndsBlock {A = Unit {0}} (tables_of node.test) mid last done) (adds : AddsBlocks (length (named_by node.test)) mid last blocks after)
-        (enters : MakesEntry (block_at blocks node.number) new mid done) (makes : MakesTest switched node.test mid last blocks after done) where
+        (enters : MakesEntry (block_at blocks node.number) new mid done) (makes : MakesTest switched node.test mid last blocks after done) (entry_adds : AddsAtMost (so_many 0 0 0 0) new mid done)
+        (test_adds : AddsAtMost (test_makes node.test) mid last done) where
       between_on : {signature : SignatureShape} {calls : List AnsweredCall} {s : Switched} {cases : List ℕ} {plain : Script} (at : StandsAt signature calls s switched.val switched.otherwise cases plain old)
           → Between at nodes (node ∷ rest) blocks new → Between at nodes rest after last
       between_on {signature} {calls} {s} {cases} {plain} at so_far =
@@ -183,6 +194,9 @@ module _ {R : Type 0} (switched : SwitchedValue) (nodes rest : List Node) (node 
         count = state.count + tables_of node.test;
         counted = let so_far = state.counted in omega (arith, so_far);
         ends = ends_behind state.count (tables_of node.test) old mid last steps_entered leaves_entered (entered.tables ∙ state.ends.tables) ends;
+        most = λ table.
+            let so_far = state.most table in let one = entry_adds no_memory table in let none = none_many table in let two = test_adds no_memory table in
+            omega (arith, so_far, one, none, two);
         waiting = reverse (named_by node.test) ++ state.order.0;
         order = subst (λ (next : ℕ). AreInOrder (reverse (named_by node.test) ++ state.order.0) next rest) (many after adds.is) state.order.3;
         waits = waits_tested (length old.func.now.blocks) node.number mid last blocks after state.order.0 node.test ends.steps ends.leaves (let more = steps_entered.grows.2 in more)
@@ -246,11 +260,26 @@ module _ {R : Type 0} (switched : SwitchedValue) (nodes items : List Node) (old 
       at_leads = all_lead old mid (cases_in node.test) at_steps leaves next.leads.0
 
       pub at_preserved : (last : FunctionBuilder R) (after : List ℕ) → EndsBlock {A = Unit {0}} (tables_of node.test) mid last done → AddsBlocks (length (named_by node.test)) mid last blocks after
-          → MakesEntry block new mid done → MakesTest switched node.test mid last blocks after done → Emitted switched nodes (drop (j + 1) items) old last after
-      at_preserved last after ends adds enters makes =
+          → MakesEntry block new mid done → MakesTest switched node.test mid last blocks after done → AddsAtMost (so_many 0 0 0 0) new mid done → AddsAtMost (test_makes node.test) mid last done
+          → Emitted switched nodes (drop (j + 1) items) old last after
+      at_preserved last after ends adds enters makes entry_adds test_adds =
           let more : suc j ≡ j + 1 = omega arith in
           subst (λ (k : ℕ). Emitted switched nodes (drop k items) old last after) more
-          (emitted_on switched nodes (drop (suc j) items) node old new blocks next mid steps entered last after ends adds (subst (λ (b : ℕ). MakesEntry b new mid done) (sym same_block) enters) makes)
+          (emitted_on switched nodes (drop (suc j) items) node old new blocks next mid steps entered last after ends adds (subst (λ (b : ℕ). MakesEntry b new mid done) (sym same_block) enters) makes entry_adds test_adds)
+
+-- the next node's test wasn't emitted
+pub most_testing : {R : Type 0} (switched : SwitchedValue) (nodes items : List Node) (old new mid last : FunctionBuilder R) (blocks : List ℕ) (j : ℕ) (node d : Node) (r : Result (Unit {0}) BuildError) (e : BuildError)
+    → node ≡ slice_index_or items j d → j < length items → Emitted switched nodes (drop j items) old new blocks → AddsAtMost (so_many 0 0 0 0) new mid done
+    → AddsAtMost {A = Unit {0}} (test_makes node.test) mid last (Err e) → IsErrAnd r (λ y. y ≡ e) → AddsAtMost (nodes_make nodes) old last r
+most_testing switched nodes items old new mid last blocks j node d r e is inside state entry_adds test_adds failed =
+    adds_err {A = Unit {0}} (nodes_make nodes) old last e r failed (λ some table.
+    let so_far = (at_next switched nodes items old new blocks j node d is inside state).most table in
+    let one = entry_adds no_memory table in let none = none_many table in let two = test_adds some table in omega (arith, so_far, one, none, two))
+
+-- the first node's test makes no more than all
+pub most_first : (nodes : List Node) (node d : Node) (table : Table) → node ≡ slice_index_or nodes 0 d → AreInOrder (0 ∷ []) 1 nodes → test_makes node.test table ≤ nodes_make nodes table
+most_first [] node d table is order = absurd (let none = ap length order in omega (arith, none))
+most_first (first ∷ rest) node d table is order = let same = ap (λ (n : Node). test_makes n.test table) is in omega (arith, same)
 
 -- all nodes were emitted
 pub all_emitted : {R : Type 0} (switched : SwitchedValue) (nodes items : List Node) (old new : FunctionBuilder R) (blocks : List ℕ) (j : ℕ) → length items ≤ j → Emitted switched nodes (drop j items) old new blocks
@@ -262,6 +291,16 @@ pub ends_all : {R : Type 0} (switched : SwitchedValue) (nodes : List Node) (old 
 ends_all switched nodes old new blocks state =
     subst (λ (count : ℕ). EndsBlock {A = Unit {0}} count old new done) (let same = state.counted in omega (arith, same)) state.ends
 
+-- the whole, or what was made where a step failed
+pub most_all : {R : Type 0} (switched : SwitchedValue) (nodes : List Node) (old new : FunctionBuilder R) (blocks : List ℕ) → Emitted switched nodes [] old new blocks → AddsAtMost (nodes_make nodes) old new done
+most_all switched nodes old new blocks state some table = let all = state.most table in omega (arith, all)
+
+pub most_entering : {R : Type 0} (switched : SwitchedValue) (nodes rest : List Node) (old new mid : FunctionBuilder R) (blocks : List ℕ) (r : Result (Unit {0}) BuildError) (e : BuildError) → Emitted switched nodes rest old new blocks
+    → AddsAtMost {A = Unit {0}} (so_many 0 0 0 0) new mid (Err e) → IsErrAnd r (λ y. y ≡ e) → AddsAtMost (nodes_make nodes) old mid r
+most_entering switched nodes rest old new mid blocks r e state adds is =
+    adds_err {A = Unit {0}} (nodes_make nodes) old mid e r is
+    (λ some table. let so_far = state.most table in let one = adds some table in let none = none_many table in omega (arith, so_far, one, none))
+
 pub made_all : {R : Type 0} (switched : SwitchedValue) (nodes : List Node) (old new : FunctionBuilder R) (blocks : List ℕ) → Emitted switched nodes [] old new blocks → MakesNodes switched nodes old new done
 made_all switched nodes old new blocks state = λ signature calls s cases plain at contained.
     let between = state.made signature calls s cases plain at contained in
@@ -271,7 +310,8 @@ made_all switched nodes old new blocks state = λ signature calls s cases plain 
 
 module _ {R : Type 0} (switched : SwitchedValue) (rest : List Node) (node : Node) (old last : FunctionBuilder R) (after : List ℕ) (order : AreInOrder (0 ∷ []) 1 (node ∷ rest))
     (leads : AllByRecursion (λ (node : Node). All (MayLead old) (cases_in node.test)) (node ∷ rest)) (filled : AllByRecursion (λ (node : Node). HasItsBlock node.test) (node ∷ rest))
-    (ends : EndsBlock {A = Unit {0}} (tables_of node.test) old last done) (adds : AddsBlocks (length (named_by node.test)) old last [] after) (makes : MakesTest switched node.test old last [] after done) where
+    (ends : EndsBlock {A = Unit {0}} (tables_of node.test) old last done) (adds : AddsBlocks (length (named_by node.test)) old last [] after) (makes : MakesTest switched node.test old last [] after done)
+    (test_adds : AddsAtMost (test_makes node.test) old last done) where
   number_is : node.number ≡ 0
   number_is = let is = order.1 in cc
 
@@ -299,6 +339,7 @@ module _ {R : Type 0} (switched : SwitchedValue) (rest : List Node) (node : Node
     count = tables_of node.test;
     counted = refl;
     ends = ends;
+    most = λ table. let one = test_adds no_memory table in omega (arith, one);
     waiting = reverse (named_by node.test) ++ [];
     order = subst (λ (left : List ℕ). AreInOrder (reverse (named_by node.test) ++ left) (suc (length after)) rest) none_left
         (subst (λ (next : ℕ). AreInOrder (reverse (named_by node.test) ++ order.0) next rest) (many after adds.is) order.3);
@@ -320,11 +361,12 @@ behind_first nodes = take (length nodes - 1) (drop 1 nodes)
 pub emitted_start : {R : Type 0} (switched : SwitchedValue) (nodes : List Node) (node d : Node) (old last : FunctionBuilder R) (before after : List ℕ) → node ≡ slice_index_or nodes 0 d → before ≡ [] → AreInOrder (0 ∷ []) 1 nodes
     → AllByRecursion (λ (node : Node). All (MayLead old) (cases_in node.test)) nodes → AllByRecursion (λ (node : Node). HasItsBlock node.test) nodes
     → EndsBlock {A = Unit {0}} (tables_of node.test) old last done → AddsBlocks (length (named_by node.test)) old last before after → MakesTest switched node.test old last before after done
-    → Emitted switched nodes (behind_first nodes) old last after
-emitted_start switched [] node d old last before after is none order leads filled ends adds makes = let no_way : ⊥ = (let waits = order in cc) in absurd no_way
-emitted_start switched (first ∷ rest) node d old last before after is none order leads filled ends adds makes =
+    → AddsAtMost (test_makes node.test) old last done → Emitted switched nodes (behind_first nodes) old last after
+emitted_start switched [] node d old last before after is none order leads filled ends adds makes test_adds = let no_way : ⊥ = (let waits = order in cc) in absurd no_way
+emitted_start switched (first ∷ rest) node d old last before after is none order leads filled ends adds makes test_adds =
     subst (λ (left : List Node). Emitted switched (first ∷ rest) left old last after) (sym (take_all (length (first ∷ rest) - 1) rest (omega arith)))
     (emitted_first switched rest first old last after order leads filled
     (subst (λ (n : Node). EndsBlock {A = Unit {0}} (tables_of n.test) old last done) is ends)
     (subst (λ (list : List ℕ). AddsBlocks (length (named_by first.test)) old last list after) none (subst (λ (n : Node). AddsBlocks (length (named_by n.test)) old last before after) is adds))
-    (subst (λ (list : List ℕ). MakesTest switched first.test old last list after done) none (subst (λ (n : Node). MakesTest switched n.test old last before after done) is makes)))
+    (subst (λ (list : List ℕ). MakesTest switched first.test old last list after done) none (subst (λ (n : Node). MakesTest switched n.test old last before after done) is makes))
+    (subst (λ (n : Node). AddsAtMost (test_makes n.test) old last done) is test_adds))

@@ -9,6 +9,7 @@ mod Differences
 mod Blocks
 mod Targets
 mod Edges
+mod Sized
 mod Tables
 mod Serving
 mod Cases

@@ -15,7 +15,7 @@ use Rattle.clif_ssa.specs.Pools.{SealingIsFull, types_of}
 use Rattle.clif_ssa.specs.Ssa.{SsaState, sealed_of}
 use Rattle.clif_builder.specs.declared.builder.FunctionBuilder.{FunctionBuilder}
 use Rattle.clif_builder.specs.Builder.{HasCurrent, with_position}
-use Rattle.clif_builder.specs.Built.{Builds, BuildsValue, HasFullTable}
+use Rattle.clif_builder.specs.Built.{Builds, BuildsValue, HasFullTable, OnlyLaidOut}
 use Rattle.clif_builder.specs.Calls.{IsCall}
 use Rattle.clif_builder.specs.Context.{FillsNone}
 use Rattle.clif_builder.specs.Growth.{Grows, GrowsBesideTables, RemembersIn, TypesStay}
@@ -50,9 +50,9 @@ pub adds_none : (t u : TableLists) → u ≡ t → MayAddJumpTables t u
 adds_none t u same = subst (λ (w : TableLists). u ≡ record w { jump_tables = u.jump_tables }) same refl
 
 -- a full table is one that a switch needs
-full_of : {R : Type 0} (old new : FunctionBuilder R) → HasFullTable old → (new.func.now.insts ≡ old.func.now.insts) × (new.func.now.values ≡ old.func.now.values) → SwitchIsFull new.func.now
-full_of old new (inl full) stays = inl (inr (ap length stays.0 ∙ full))
-full_of old new (inr full) stays = inl (inl (ap length stays.1 ∙ full))
+full_of : {R : Type 0} (old new : FunctionBuilder R) → HasFullTable old → OnlyLaidOut old.func.now new.func.now → SwitchIsFull new.func.now
+full_of old new (inl full) stays = inl (inr (ap (λ (f : Body). length f.insts) stays ∙ full))
+full_of old new (inr full) stays = inl (inl (ap (λ (f : Body). length f.values) stays ∙ full))
 
 -- nothing waits that needs another one
 pub sealing_full : (f g : Body) (waiting : List Pending) → waiting ≡ [] → SealingIsFull (Contains (types_of f waiting)) g → SwitchIsFull g

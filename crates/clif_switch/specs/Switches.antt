@@ -1,10 +1,10 @@
 -- What emitting a switch makes of a builder. Source: the module `switch` of cranelift-frontend; that a refusal leaves the builder as it
 -- was is own.
-use Rattle.std.specs.Prelude.{◌≡◌, ◌↔◌, ◌<◌, ◌≤◌, ◌+◌, ◌^◌, ℕ, List, ◌++◌, length, replicate, IsTrue, false, None, Some, Result, Err, OnOk, IfErr}
+use Rattle.std.specs.Prelude.{◌≡◌, ◌≢◌, ◌↔◌, ◌<◌, ◌≤◌, ◌+◌, ◌^◌, ℕ, List, ◌++◌, length, replicate, IsTrue, false, None, Some, Result, Err, OnOk, IfErr}
 use Rattle.std.specs.FinMap as map
 use Rattle.clif_types.specs.Signature.{SignatureShape}
 use Rattle.clif_types.specs.Types.{is_int}
-use Rattle.clif_types.specs.declared.error.BuildError.TheVariants.{Failed, Full}
+use Rattle.clif_types.specs.declared.error.BuildError.TheVariants.{Failed, Full, Memory}
 use Rattle.clif_types.specs.declared.types.«Type».{«Type»}
 use Rattle.clif_ir.specs.Body.{value_at}
 use Rattle.clif_ranges.specs.declared.ranges.CaseRange.{CaseRange}
@@ -15,6 +15,7 @@ use Rattle.clif_ranges.specs.Ranges.{AreFewest}
 use Rattle.clif_meaning.specs.Ledger.{type_of}
 use Rattle.clif_meaning.specs.Name.{Name}
 use Rattle.clif_meaning.specs.Request.{AnsweredCall, script_of}
+use Rattle.clif_meaning.specs.Sizes.{MakesAtMost, Table, made_by_script}
 use Rattle.clif_builder.specs.declared.builder.FunctionBuilder.{FunctionBuilder}
 use Rattle.clif_builder.specs.Builder.{HasCurrent, IsLeft, SameLoans, is_free}
 use Rattle.clif_builder.specs.Growth.{GrowsBesideTables, RemembersIn, TypesStay}
@@ -26,6 +27,7 @@ use Rattle.clif_expansion.specs.Keys.{table_count}
 use Rattle.clif_expansion.specs.Switching.{IsSwitchCode}
 use Rattle.clif_switch_calls.specs.SwitchCalls.{Switched}
 use Rattle.clif_switch_calls.specs.SwitchLaw.{case_edges, case_keys}
+use Rattle.clif_switch_calls.specs.SwitchSizes.{switch_makes}
 use Rattle.clif_switch.specs.Emission.{MayAddJumpTables, LeavesBlocks, MayLead, SwitchIsFull}
 
 -- A switch on the value may be built, of cases with these blocks: it is an integer, and branches may lead to all blocks.
@@ -37,13 +39,15 @@ pub record MayEmit {R : Type 0} (cases : CaseMap) (value otherwise : ℕ) (b : F
   pub cases_lead : (key block : ℕ) → map.get cases key ≡ Some block → MayLead b block
 
 -- What is emitted is code of the switch: it walks from the current block to the block of each key's case, behind at most two conditional
--- branches more than the logarithm of the number of ranges, rounded up, and one table at most.
+-- branches more than the logarithm of the number of ranges, rounded up, and one table at most; and it makes as many entries of each table
+-- of the function as a switch of so many keys at most.
 pub record IsCodeOf (calls added : List AnsweredCall) (s : Switched) (cases : CaseMap) (block : Name) : Type 0 where
   pub ranges : List CaseRange
   pub ranges_for : AreRangesFor cases s.ty ranges
   pub fewest : AreFewest ranges
   pub code : (k : ℕ) → length ranges ≤ 2 ^ k
       → IsSwitchCode (script_of calls) (script_of added) block s.value s.ty (case_keys cases) (case_edges s cases) (k + 2) 1
+  pub most : (table : Table) → made_by_script (script_of added) table ≤ switch_makes (length (case_keys cases)) table
 
 -- names of the value, and of the blocks to which control goes by its cases
 pub record NamesSwitch (calls : List AnsweredCall) (s : Switched) (cases : CaseMap) (value otherwise : ℕ) : Type 0 where
@@ -67,6 +71,8 @@ pub record Emits {R : Type 0} (cases : CaseMap) (value otherwise : ℕ) (old new
   pub errors : IfErr answer (IsUnemitted cases (value_at old.func.now value).ty old new)
   -- where an error says so, a table that the switch needs is full
   pub full : answer ≡ Err (switch_error.Build Full) → SwitchIsFull new.func.now
+  -- whatever it answers, but for want of memory, each table has at most so many entries more, by the number of keys
+  pub most : answer ≢ Err (switch_error.Build Memory) → MakesAtMost (switch_makes (length (case_keys cases))) old.func.now new.func.now
   -- the greatest key is looked at before anything else
   pub too_wide : (max : ℕ) → (answer ≡ Err (switch_error.KeyTooWide (value_at old.func.now value).ty max))
       ↔ ((old.failed ≡ false) × IsKeyTooWide cases (value_at old.func.now value).ty max)

@@ -5,9 +5,11 @@ ghost use Rattle.std.specs.Prelude.{◌≡◌, ◌<◌, ◌≤◌, suc, [], ◌�
 ghost use Rattle.std.specs.List.{AllByRecursion};
 ghost use Rattle.clif_ir.specs.Body.{value_at};
 ghost use Rattle.clif_ranges.specs.Search.{AreInOrder, named_by, number_of};
+ghost use Rattle.clif_builder.specs.Adding.{AddsAtMost};
 ghost use Rattle.clif_builder.specs.Builder.{HasCurrent, IsLeft, is_free};
 ghost use Rattle.clif_switch.specs.Emission.{AddsBlocks, EndsBlock, GivesValue, HasItsBlock, IsEntered, IsOpenFor, IsSwitchedIn, Makes, MakesBlock, MakesBranch, MakesCheck, MakesEntry, MakesNext, MakesNodes, MakesOf, MakesTable, MakesTest, MakesValue, MayLead, StaysHere, Steps, bare_to, cases_in, difference_calls, difference_named, key_calls, number_calls, number_named, tables_in};
 ghost use Rattle.clif_switch_calls.specs.SwitchCalls.{compared, i32, index_calls, index_name, is_widest, signed_64, table_calls, tables_of};
+ghost use Rattle.clif_switch_calls.specs.SwitchSizes.{nodes_make, so_many, test_makes};
 
 use clif_builder::laws::{
     ledger_is_read_by_number, requests_ask_for_their_shapes, table_calls_add_nothing,
@@ -41,6 +43,7 @@ pub(crate) fn emit_nodes(
     requires filled { AllByRecursion (λ node. HasItsBlock node.test) nodes.now }
     requires order { AreInOrder (0 ∷ []) 1 nodes.now }
     ensures ends { EndsBlock (tables_in nodes.now) bx.old bx.new result }
+    ensures most { AddsAtMost (nodes_make nodes.now) bx.old bx.new result }
     ensures made { MakesNodes switched nodes.now bx.old bx.new result }
 {
     let mut blocks = Vec::new(bx.func().allocator());
@@ -60,6 +63,7 @@ fn enter(bx: &mut FunctionBuilder<'_>, block: Block) -> Result<(), BuildError>
     requires left { IsLeft bx.old }
     requires free { IsTrue (is_free bx.old) }
     ensures steps { Steps bx.old bx.new result }
+    ensures most { AddsAtMost (so_many 0 0 0 0) bx.old bx.new result }
     ensures entered { OnOk result (IsEntered block bx.old bx.new) }
     ensures made { MakesEntry block bx.old bx.new result }
 {
@@ -82,6 +86,7 @@ fn emit_test(
     requires filled { HasItsBlock test }
     requires sound { bx.old.failed ≡ false }
     ensures ends { EndsBlock (tables_of test.entry) bx.old bx.new result }
+    ensures most { AddsAtMost (test_makes test.entry) bx.old bx.new result }
     ensures blocks { OnOk result (AddsBlocks (length (named_by test.entry)) bx.old bx.new blocks.old.items blocks.new.items) }
     ensures made { MakesTest switched test.entry bx.old bx.new blocks.old.items blocks.new.items result }
 {
@@ -120,6 +125,7 @@ fn branch_on_key(
     requires block_leads { MayLead bx.old block }
     requires other_leads { MayLead bx.old other }
     ensures ends { EndsBlock 0 bx.old bx.new result }
+    ensures most { AddsAtMost (so_many 4 5 0 0) bx.old bx.new result }
     ensures made { MakesBranch switched block other (λ s place. key_calls s key place) bx.old bx.new result }
 {
     ledger_is_read_by_number();
@@ -136,6 +142,7 @@ fn branch_on_key(
 fn new_block(bx: &mut FunctionBuilder<'_>, blocks: &mut Vec<Block>) -> Result<Block, BuildError>
     requires current { HasCurrent bx.old }
     ensures here { StaysHere bx.old bx.new result }
+    ensures most { AddsAtMost (so_many 0 0 1 0) bx.old bx.new result }
     ensures open { IfOk result (IsOpenFor bx.new) }
     ensures number { IfOk result (λ block. (block ≡ length bx.old.func.now.blocks) × (length bx.new.func.now.blocks ≡ suc block)) }
     ensures added { IfOk result (λ block. blocks.new.items ≡ blocks.old.items ++ block ∷ []) }
@@ -160,6 +167,7 @@ fn block_for(
     requires switched { IsSwitchedIn bx.old switched }
     requires sound { bx.old.failed ≡ false }
     ensures here { StaysHere bx.old bx.new result }
+    ensures most { AddsAtMost (so_many 0 0 (length (number_of next)) 0) bx.old bx.new result }
     ensures leads { IfOk result (MayLead bx.new) }
     ensures blocks { OnOk result (AddsBlocks (length (number_of next)) bx.old bx.new blocks.old.items blocks.new.items) }
     ensures made { MakesNext switched next bx.old bx.new blocks.old.items blocks.new.items result }
@@ -185,6 +193,7 @@ fn branch_on(
     requires taken_leads { MayLead bx.old taken }
     requires other_leads { MayLead bx.old other }
     ensures ends { EndsBlock 0 bx.old bx.new result }
+    ensures most { AddsAtMost (so_many 4 5 0 0) bx.old bx.new result }
     ensures made { MakesBranch switched taken other (λ s place. compared s cond number place) bx.old bx.new result }
 {
     ledger_is_read_by_number();
@@ -206,6 +215,7 @@ fn emit_number(
     requires current { HasCurrent bx.old }
     requires switched { IsSwitchedIn bx.old switched }
     ensures gives { GivesValue switched.ty bx.old bx.new result }
+    ensures most { AddsAtMost (so_many 3 3 0 0) bx.old bx.new result }
     ensures position { OnOk result (bx.new.position ≡ bx.old.position) }
     ensures made { MakesValue switched (number_calls number) (number_named number) bx.old bx.new result }
 {
@@ -247,6 +257,7 @@ fn emit_table(
     requires switched { IsSwitchedIn bx.old switched }
     requires leads { All (MayLead bx.old) range.now.blocks.items }
     ensures ends { EndsBlock 1 bx.old bx.new result }
+    ensures most { AddsAtMost (so_many 8 10 1 1) bx.old bx.new result }
     ensures made { Makes switched range.now.blocks.items (λ s tables place. table_calls s tables range.now place) bx.old bx.new result }
 {
     ledger_is_read_by_number();
@@ -266,7 +277,8 @@ fn jump_table(
     otherwise: Block,
     blocks: &[Block],
 ) -> Result<JumpTable, BuildError>
-    ensures { MakesTable (map bare_to (otherwise ∷ blocks.now)) bx.old bx.new result }
+    ensures made { MakesTable (map bare_to (otherwise ∷ blocks.now)) bx.old bx.new result }
+    ensures most { AddsAtMost (so_many 0 0 0 1) bx.old bx.new result }
 {
     let default = bx.block_call(otherwise, &[])?;
     let mut entries = Vec::new(bx.func().allocator());
@@ -292,6 +304,7 @@ fn emit_difference(
     requires switched { IsSwitchedIn bx.old switched }
     requires sound { bx.old.failed ≡ false }
     ensures gives { GivesValue switched.ty bx.old bx.new result }
+    ensures most { AddsAtMost (so_many 4 4 0 0) bx.old bx.new result }
     ensures position { OnOk result (bx.new.position ≡ bx.old.position) }
     ensures made { MakesValue switched (difference_calls first) (difference_named first) bx.old bx.new result }
 {
@@ -322,6 +335,7 @@ fn emit_index(
     requires typed { (value_at bx.old.func.now place).ty ≡ switched.ty }
     requires sound { bx.old.failed ≡ false }
     ensures gives { GivesValue i32 bx.old bx.new result }
+    ensures most { AddsAtMost (so_many 4 5 1 0) bx.old bx.new result }
     ensures made { MakesOf switched place index_calls index_name bx.old bx.new result }
 {
     ledger_is_read_by_number();
@@ -349,6 +363,7 @@ fn check_index(
     requires exists { place < length bx.old.func.now.values }
     requires typed { (value_at bx.old.func.now place).ty ≡ switched.ty }
     ensures ends { EndsBlock 0 bx.old bx.new result }
+    ensures most { AddsAtMost (so_many 3 4 1 0) bx.old bx.new result }
     ensures open { IfOk result (IsOpenFor bx.new) }
     ensures behind { IfOk result (λ block. length bx.old.func.now.blocks ≤ block) }
     ensures made { MakesCheck switched place bx.old bx.new result }

@@ -19,6 +19,7 @@ pub mod Plain
 pub mod Led
 pub mod Served
 pub mod Counted
+pub mod Sized
 pub mod Refused
 pub mod Targets
 pub mod Allowed

@@ -1,4 +1,5 @@
 -- What the laws of this crate cite.
 pub mod SwitchCalls
 pub mod SwitchLaw
+pub mod SwitchSizes
 pub mod SwitchCallExamples

@@ -1,29 +1,27 @@
 -- The constant is built, and then stored.
-use Rattle.std.proofs.Common.{◌≡◌, ℕ, ℤ, w64, [], ◌∷◌, take, rules, arith, ◌∙◌, ap, subst}
+use Rattle.std.proofs.Common.{◌≡◌, ℕ, ℤ, w64, [], ◌∷◌, take, rules, arith, refl, ◌∙◌, ap, subst}
 use Rattle.std.proofs.lemmas.Grind.{common_steps}
 use Rattle.std.proofs.lemmas.Int.{to_z-of_z}
 use Rattle.std.proofs.lemmas.List.{take-replicate}
-use Rattle.std.proofs.lemmas.Result.{err_from_is_err_and}
-use Rattle.std.specs.Prelude.{Ok, Err}
+use Rattle.std.specs.Prelude.{Ok}
 use mir.Val.{SFits}
 use Rattle.clif_inst_builder.specs.Shapes as shapes
+use Rattle.clif_meaning.specs.Instruction.{Iconst}
 use Rattle.clif_builder.specs.Built.{BuildsValue}
+use Rattle.clif_expansion.specs.Constants.{computing}
 use Rattle.clif_memory_helpers.specs.Lines.{HasType, no_values}
-use Rattle.clif_memory_helpers.proofs.Chains.{makes_failed}
-use Rattle.clif_memory_helpers.proofs.Lines.{value_line}
 use Rattle.clif_memory_helpers.proofs.Loads.{fill_made}
 use Rattle.clif_memory_helpers.proofs.Pieces.{typed_take}
+use Rattle.clif_memory_helpers.proofs.Stopped.{first_stopped}
 use Rattle.clif_memory_helpers.proofs.accesses.fill_pieces.Goals as goal
 
 pub returns-in_err-constant : goal.returns-in_err-constant
-returns-in_err-constant g c =
-    let p = err_from_is_err_and c.from_residual.result c.from_residual.ensures.1 in
-    record {
-      filling = c.repeated_byte.result;
-      repeats = c.repeated_byte.ensures;
-      made = makes_failed c.args.bx.now c.iconst.new.self (c.args.target ∷ []) _ _ no_values c.from_residual.result c.in_err-constant.field-0.0 p.0
-          (value_line c.args.bx.now c.iconst.new.self _ _ (Err c.in_err-constant.field-0.0) c.requires.current c.in_err-constant.ensures.built) p.1 p.2;
-    }
+returns-in_err-constant g c = record {
+  filling = c.repeated_byte.result;
+  repeats = c.repeated_byte.ensures;
+  made = first_stopped (c.args.target ∷ []) _ _ no_values c.from_residual.result c.in_err-constant.field-0.0 c.from_residual.ensures.1 (λ place names. computing (Iconst c.repeated_byte.result) c.args.accesses.ty []) (λ place names. refl)
+      c.args.bx.now c.iconst.new.self _ _ c.requires.current c.in_err-constant.ensures.built (λ place names long. record { rest = _; is = refl });
+}
 
 pub store_pieces-requires-clause-typed : goal.store_pieces-requires-clause-typed
 store_pieces-requires-clause-typed g c =

@@ -1,5 +1,6 @@
 -- A difference is a number and a subtraction, or a sum with the negated number.
 use Rattle.std.proofs.Common.{rules, arith, w64, to_z, of_z, ◌≡◌, ℕ, ℤ, [], ◌∷◌, ◌++◌, refl, sym, ◌∙◌, ap, subst}
+use Rattle.std.specs.Prelude.{Err, Ok}
 use Rattle.std.proofs.lemmas.Grind.{common_steps}
 use Rattle.std.proofs.lemmas.Int.{to_z-of_z}
 use mir.Val.{SFits}
@@ -21,6 +22,9 @@ use Rattle.clif_switch.proofs.Compared.{with_number_made}
 use Rattle.clif_switch.proofs.Differences.{behind_is, narrow_summed, none_made, small_summed, subtracted_is, subtracted_made, summed_made, with_constant_made}
 use Rattle.clif_switch.proofs.Numbers.{asks_here, type_is, with_constant_gives}
 use Rattle.clif_switch.proofs.Values.{gives_first, gives_then, gives_went}
+use Rattle.clif_builder.proofs.Adding.{adds_err, adds_none}
+use Rattle.clif_switch_calls.specs.SwitchSizes.{so_many}
+use Rattle.clif_switch.proofs.Sized.{fewer_many, then_many, value_many, with_constant_many}
 use Rattle.clif_switch.proofs.emission.emit_difference.Goals as goal
 use Rattle.clif_switch.proofs.emission.emit_difference.Goals.{else-is_widest-via-then-is_widest+else-first, else-is_widest-via-else-is_widest}
 
@@ -76,3 +80,20 @@ returns-clause-made g c = λ signature calls s cases plain at.
     (behind_is s.ty (negated_64 c.args.first) place)
     (with_constant_made reads asks at c.iadd_imm_s.new.self (Binary Iadd) (λ y constant. shapes.binary Iadd y constant) c.constant_operands_stand.ensures.adds s.value c.args.switched.val (negated_64 c.args.first) s.ty c.iadd_imm_s.result
     at.value (sym (type_is reads asks at)) built)
+
+pub returns-then-first-eq0-clause-most : goal.returns-then-first-eq0-clause-most
+returns-then-first-eq0-clause-most g c = adds_none (so_many 4 4 0 0) c.args.bx.now (Ok c.args.switched.val)
+
+pub returns-in_err-first-clause-most : goal.returns-in_err-first-clause-most
+returns-in_err-first-clause-most g c =
+    adds_err {A = ℕ} (so_many 4 4 0 0) c.args.bx.now c.emit_number.new.bx c.in_err-first.field-0.0 c.from_residual.result c.from_residual.ensures.1
+    (fewer_many 3 3 0 0 4 4 0 0 c.args.bx.now c.emit_number.new.bx (Err c.in_err-first.field-0.0) (omega arith) (omega arith) (omega arith) (omega arith) c.in_err-first.ensures.most)
+
+pub returns-then-first-clause-most : goal.returns-then-first-clause-most
+returns-then-first-clause-most g c =
+    then_many 3 3 0 0 1 1 0 0 c.args.bx.now c.emit_number.new.bx c.isub.new.self c.in_ok-first.first c.isub.result c.in_ok-first.ensures.most (value_many c.emit_number.new.bx c.isub.new.self _ _ c.isub.result c.isub.ensures.built)
+
+pub returns-clause-most : goal.returns-clause-most
+returns-clause-most g c =
+    fewer_many 3 3 0 0 4 4 0 0 c.args.bx.now c.iadd_imm_s.new.self c.iadd_imm_s.result (omega arith) (omega arith) (omega arith) (omega arith)
+    (with_constant_many c.args.bx.now c.iadd_imm_s.new.self (λ constant. shapes.binary Iadd c.args.switched.val constant) _ c.args.switched.val _ c.iadd_imm_s.result c.iadd_imm_s.ensures.built)

@@ -1,5 +1,6 @@
 -- An index of 32 bits, by the width of the value.
 use Rattle.std.proofs.Common.{◌≡◌, ℕ, [], ◌∷◌, ◌++◌, refl, ◌∙◌, ap, arith, append-nil}
+use Rattle.std.specs.Prelude.{Err, Ok}
 use Rattle.std.proofs.lemmas.Grind.{common_steps}
 use Rattle.clif_opcodes.specs.declared.opcodes.ConvertOpcode.TheVariants.{Ireduce, Uextend}
 use Rattle.clif_types.specs.Types.{bits_of}
@@ -14,6 +15,9 @@ use Rattle.clif_switch.proofs.Numbers.{type_is}
 use Rattle.clif_switch.proofs.Steps.{steps_on}
 use Rattle.clif_switch.proofs.Targets.{wide_is}
 use Rattle.clif_switch.proofs.Values.{done, gives_first}
+use Rattle.clif_builder.proofs.Adding.{adds_err, adds_none}
+use Rattle.clif_switch_calls.specs.SwitchSizes.{so_many}
+use Rattle.clif_switch.proofs.Sized.{fewer_many, then_many, value_many}
 use Rattle.clif_switch.proofs.emission.emit_index.Goals as goal
 
 pub returns-in_ok-enter-clause-gives : goal.returns-in_ok-enter-clause-gives
@@ -60,3 +64,29 @@ returns-else-bits-lt32-clause-made g c = λ signature calls s cases plain at x n
     index_is at x c.args.place (grind (arith, common_steps, same, c.if-bits-gt32.false, c.bits-bits.ensures))
     (grind (arith, common_steps, same, c.if-bits-lt32.false, c.bits-bits.ensures))
     (grind (arith, common_steps, same, c.if-bits-gt32.false, c.if-bits-lt32.false, c.bits-bits.ensures)) names
+
+-- SIZES -------------------------------------------------------------------------------------------------------------------
+
+pub returns-in_err-block-clause-most : goal.returns-in_err-block-clause-most
+returns-in_err-block-clause-most g c =
+    adds_err {A = ℕ} (so_many 4 5 1 0) c.args.bx.now c.check_index.new.bx c.in_err-block.field-0.0 c.from_residual.result c.from_residual.ensures.1
+    (fewer_many 3 4 1 0 4 5 1 0 c.args.bx.now c.check_index.new.bx (Err c.in_err-block.field-0.0) (omega arith) (omega arith) (omega arith) (omega arith) c.in_err-block.ensures.most)
+
+pub returns-in_err-enter-clause-most : goal.returns-in_err-enter-clause-most
+returns-in_err-enter-clause-most g c =
+    adds_err {A = Unit {0}} (so_many 4 5 1 0) c.args.bx.now c.enter.new.bx c.in_err-enter.field-0.0 c.from_residual-in_err-enter.result c.from_residual-in_err-enter.ensures.1
+    (fewer_many {A = Unit {0}} 3 4 1 0 4 5 1 0 c.args.bx.now c.enter.new.bx (Err c.in_err-enter.field-0.0) (omega arith) (omega arith) (omega arith) (omega arith)
+    (then_many {B = Unit {0}} 3 4 1 0 0 0 0 0 c.args.bx.now c.check_index.new.bx c.enter.new.bx c.in_ok-block.block (Err c.in_err-enter.field-0.0) c.in_ok-block.ensures.most c.in_err-enter.ensures.most))
+
+pub returns-in_ok-enter-clause-most : goal.returns-in_ok-enter-clause-most
+returns-in_ok-enter-clause-most g c =
+    then_many 3 4 1 0 1 1 0 0 c.args.bx.now c.enter.new.bx c.ireduce.new.self (tt {0}) c.ireduce.result
+    (then_many 3 4 1 0 0 0 0 0 c.args.bx.now c.check_index.new.bx c.enter.new.bx c.in_ok-block.block done c.in_ok-block.ensures.most c.in_ok-enter.ensures.most)
+    (value_many c.enter.new.bx c.ireduce.new.self _ _ c.ireduce.result c.ireduce.ensures.built)
+
+pub returns-then-bits-lt32-clause-most : goal.returns-then-bits-lt32-clause-most
+returns-then-bits-lt32-clause-most g c =
+    fewer_many 1 1 0 0 4 5 1 0 c.args.bx.now c.uextend.new.self c.uextend.result (omega arith) (omega arith) (omega arith) (omega arith) (value_many c.args.bx.now c.uextend.new.self _ _ c.uextend.result c.uextend.ensures.built)
+
+pub returns-else-bits-lt32-clause-most : goal.returns-else-bits-lt32-clause-most
+returns-else-bits-lt32-clause-most g c = adds_none (so_many 4 5 1 0) c.args.bx.now (Ok c.args.place)

@@ -1,5 +1,5 @@
 -- A number is an instruction or two of a constant, or its halves and their concatenation.
-use Rattle.std.proofs.Common.{rules, w64, ◌≡◌, ◌/◌, ◌^◌, ℤ, sym, ◌∙◌, subst, arith}
+use Rattle.std.proofs.Common.{rules, w64, ◌≡◌, ◌/◌, ◌^◌, ℕ, ℤ, sym, ◌∙◌, subst, arith}
 use Rattle.std.proofs.lemmas.Grind.{common_steps}
 use Rattle.std.proofs.lemmas.Int.{to_z-of_z}
 use Rattle.std.specs.Prelude.{Ok, Err}
@@ -14,6 +14,9 @@ use Rattle.clif_switch_calls.specs.SwitchCalls.{signed_64}
 use Rattle.clif_switch.proofs.Numbers.{composed_is, composed_of, constant_gives, constant_made, halves_made, narrow_plain, plain_is, small_plain, type_is}
 use Rattle.clif_switch.proofs.Steps.{value_steps}
 use Rattle.clif_switch.proofs.Values.{always, failed_then, gives_failed, gives_first, gives_then, halves_give, type_later, value_went, went_then}
+use Rattle.clif_builder.proofs.Adding.{adds_err}
+use Rattle.clif_switch_calls.specs.SwitchSizes.{so_many}
+use Rattle.clif_switch.proofs.Sized.{constant_many, fewer_many, then_many, value_many}
 use Rattle.clif_switch.proofs.emission.emit_number.Goals as goal
 use Rattle.clif_switch.proofs.emission.emit_number.Goals.{else-is_widest-via-then-is_widest+else-number, else-is_widest-via-else-is_widest}
 
@@ -79,3 +82,28 @@ returns-else-is_widest-clause-made g c = λ signature calls s cases plain at.
     ])
     (constant_made reads asks at c.integer_constant.new.self (signed_64 c.args.number) s.ty c.integer_constant.result
     (subst (λ (ty : «Type»). BuildsConstant BuildsValue ty (signed_64 c.args.number) c.args.bx.now c.integer_constant.new.self c.integer_constant.result) (sym same) built))
+
+-- SIZES -------------------------------------------------------------------------------------------------------------------
+
+pub returns-in_err-low-clause-most : goal.returns-in_err-low-clause-most
+returns-in_err-low-clause-most g c =
+    adds_err {A = ℕ} (so_many 3 3 0 0) c.args.bx.now c.iconst.new.self c.in_err-low.field-0.0 c.from_residual.result c.from_residual.ensures.1
+    (fewer_many 1 1 0 0 3 3 0 0 c.args.bx.now c.iconst.new.self (Err c.in_err-low.field-0.0) (omega arith) (omega arith) (omega arith) (omega arith) (value_many _ _ _ _ (Err c.in_err-low.field-0.0) c.in_err-low.ensures.built))
+
+pub returns-in_err-high-clause-most : goal.returns-in_err-high-clause-most
+returns-in_err-high-clause-most g c =
+    adds_err {A = ℕ} (so_many 3 3 0 0) c.args.bx.now c.iconst-then-number.new.self c.in_err-high.field-0.0 c.from_residual-in_err-high.result c.from_residual-in_err-high.ensures.1
+    (fewer_many 2 2 0 0 3 3 0 0 c.args.bx.now c.iconst-then-number.new.self (Err c.in_err-high.field-0.0) (omega arith) (omega arith) (omega arith) (omega arith)
+    (then_many 1 1 0 0 1 1 0 0 c.args.bx.now c.iconst.new.self c.iconst-then-number.new.self c.in_ok-low.low (Err c.in_err-high.field-0.0) (value_many _ _ _ _ (Ok c.in_ok-low.low) c.in_ok-low.ensures.built)
+    (value_many _ _ _ _ (Err c.in_err-high.field-0.0) c.in_err-high.ensures.built)))
+
+pub returns-in_ok-high-clause-most : goal.returns-in_ok-high-clause-most
+returns-in_ok-high-clause-most g c =
+    then_many 2 2 0 0 1 1 0 0 c.args.bx.now c.iconst-then-number.new.self c.iconcat.new.self c.in_ok-high.high c.iconcat.result
+    (then_many 1 1 0 0 1 1 0 0 c.args.bx.now c.iconst.new.self c.iconst-then-number.new.self c.in_ok-low.low (Ok c.in_ok-high.high) (value_many _ _ _ _ (Ok c.in_ok-low.low) c.in_ok-low.ensures.built)
+    (value_many _ _ _ _ (Ok c.in_ok-high.high) c.in_ok-high.ensures.built))
+    (value_many c.iconst-then-number.new.self c.iconcat.new.self _ _ c.iconcat.result c.iconcat.ensures.built)
+
+pub returns-else-is_widest-clause-most : goal.returns-else-is_widest-clause-most
+returns-else-is_widest-clause-most g c =
+    fewer_many 2 2 0 0 3 3 0 0 c.args.bx.now c.integer_constant.new.self c.integer_constant.result (omega arith) (omega arith) (omega arith) (omega arith) (constant_many c.args.bx.now c.integer_constant.new.self _ c.args.switched.ty c.integer_constant.result c.integer_constant.ensures.built)

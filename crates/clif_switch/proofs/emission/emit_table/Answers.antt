@@ -1,6 +1,6 @@
 -- The table stands before the code that comes to the index, and serves the branch behind it.
 use Rattle.std.proofs.Common.{◌≡◌, ◌≤◌, ◌+◌, ℕ, suc, List, [], ◌∷◌, ◌++◌, length, map, sym, ◌∙◌, ap, subst, arith, append_assoc}
-use Rattle.std.specs.Prelude.{All}
+use Rattle.std.specs.Prelude.{All, Err, Ok}
 use Rattle.std.proofs.lemmas.List.{length-map}
 use Rattle.clif_instructions.specs.declared.block_call.BlockCall.{BlockCall}
 use Rattle.clif_ir.specs.Body.{Body}
@@ -19,12 +19,15 @@ use Rattle.clif_switch.proofs.Serving.{all_lead, all_lead_on, held_is_table, may
 use Rattle.clif_switch.proofs.Steps.{leaves_on, may_lead_on, steps_ok, steps_on}
 use Rattle.clif_switch.proofs.Tables.{all_edges, edge_requests, table_branch_made, table_length, table_stood}
 use Rattle.clif_switch.proofs.Values.{done}
+use Rattle.clif_builder.proofs.Adding.{adds_err, adds_ok}
+use Rattle.clif_switch_calls.specs.SwitchSizes.{so_many}
+use Rattle.clif_switch.proofs.Sized.{fewer_many, served_many, then_many}
 use Rattle.clif_switch.proofs.emission.emit_table.Goals as goal
 
 pub br_table-requires-clause-serves : goal.br_table-requires-clause-serves
 br_table-requires-clause-serves g c =
     let edges : List BlockCall = map bare_to (c.args.switched.otherwise ∷ c.as_slice.result.now) in
-    let table = c.in_ok-table.ensures in
+    let table = c.in_ok-table.ensures.made in
     let place = c.in_ok-place.ensures.gives in
     let index = c.in_ok-index.ensures.gives in
     let first = table_leaves edges c.args.bx.now c.jump_table.new.bx c.in_ok-table.table table in
@@ -41,7 +44,7 @@ br_table-requires-clause-serves g c =
 pub returns-clause-ends : goal.returns-clause-ends
 returns-clause-ends g c =
     let edges : List BlockCall = map bare_to (c.args.switched.otherwise ∷ c.as_slice.result.now) in
-    let table = c.in_ok-table.ensures in
+    let table = c.in_ok-table.ensures.made in
     let place = c.in_ok-place.ensures.gives in
     let index = c.in_ok-index.ensures.gives in
     let first = table_leaves edges c.args.bx.now c.jump_table.new.bx c.in_ok-table.table table in
@@ -57,7 +60,7 @@ returns-clause-ends g c =
 
 pub returns-in_err-br_table-clause-ends : goal.returns-in_err-br_table-clause-ends
 returns-in_err-br_table-clause-ends g c =
-    let table = c.in_ok-table.ensures in
+    let table = c.in_ok-table.ensures.made in
     let steps = steps_on c.args.bx.now c.jump_table.new.bx c.emit_difference.new.bx c.in_ok-table.table done table.steps
     (steps_ok c.jump_table.new.bx c.emit_difference.new.bx c.in_ok-place.place (tt {0}) c.in_ok-place.ensures.gives.steps) in
     let whole = steps_on c.args.bx.now c.emit_difference.new.bx c.emit_index.new.bx (tt {0}) done steps
@@ -70,7 +73,7 @@ returns-clause-made g c = λ signature calls s cases plain at are.
     let reads = c.ledger_is_read_by_number.ensures in
     let law = c.table_calls_add_nothing.ensures in
     let items : List ℕ = c.args.range.now.blocks.items in
-    let table = c.in_ok-table.ensures in
+    let table = c.in_ok-table.ensures.made in
     let held_edges : List BlockCall = map bare_to (c.args.switched.otherwise ∷ c.as_slice.result.now) in
     let place : ℕ = next_place calls plain in
     let targets : List Name = table_targets s c.args.range.now in
@@ -107,3 +110,39 @@ returns-clause-made g c = λ signature calls s cases plain at are.
     (append_assoc (edge_requests targets) (request ∷ []) (made ++ rest) ∙ sym (append_assoc (edge_requests targets) (request ∷ made) rest) ∙ sym (append_assoc (edge_requests targets ++ request ∷ made) indices (branch ∷ [])))
     (on_then at first (made ++ rest) c.br_table.new.self one
     (on_then one.later made rest c.br_table.new.self two.on (on_then two.on.later indices (branch ∷ []) c.br_table.new.self three.on four)))
+
+-- SIZES -------------------------------------------------------------------------------------------------------------------
+
+pub returns-in_err-table-clause-most : goal.returns-in_err-table-clause-most
+returns-in_err-table-clause-most g c =
+    adds_err {A = ℕ} (so_many 8 10 1 1) c.args.bx.now c.jump_table.new.bx c.in_err-table.field-0.0 c.from_residual.result c.from_residual.ensures.1
+    (fewer_many 0 0 0 1 8 10 1 1 c.args.bx.now c.jump_table.new.bx (Err c.in_err-table.field-0.0) (omega arith) (omega arith) (omega arith) (omega arith) c.in_err-table.ensures.most)
+
+pub returns-in_err-place-clause-most : goal.returns-in_err-place-clause-most
+returns-in_err-place-clause-most g c =
+    adds_err {A = ℕ} (so_many 8 10 1 1) c.args.bx.now c.emit_difference.new.bx c.in_err-place.field-0.0 c.from_residual-in_err-place.result c.from_residual-in_err-place.ensures.1
+    (fewer_many 4 4 0 1 8 10 1 1 c.args.bx.now c.emit_difference.new.bx (Err c.in_err-place.field-0.0) (omega arith) (omega arith) (omega arith) (omega arith)
+    (then_many 0 0 0 1 4 4 0 0 c.args.bx.now c.jump_table.new.bx c.emit_difference.new.bx c.in_ok-table.table (Err c.in_err-place.field-0.0) c.in_ok-table.ensures.most c.in_err-place.ensures.most))
+
+pub returns-in_err-index-clause-most : goal.returns-in_err-index-clause-most
+returns-in_err-index-clause-most g c =
+    adds_err {A = ℕ} (so_many 8 10 1 1) c.args.bx.now c.emit_index.new.bx c.in_err-index.field-0.0 c.from_residual-in_err-index.result c.from_residual-in_err-index.ensures.1
+    (fewer_many 8 9 1 1 8 10 1 1 c.args.bx.now c.emit_index.new.bx (Err c.in_err-index.field-0.0) (omega arith) (omega arith) (omega arith) (omega arith)
+    (then_many 4 4 0 1 4 5 1 0 c.args.bx.now c.emit_difference.new.bx c.emit_index.new.bx c.in_ok-place.place (Err c.in_err-index.field-0.0)
+    (then_many 0 0 0 1 4 4 0 0 c.args.bx.now c.jump_table.new.bx c.emit_difference.new.bx c.in_ok-table.table (Ok c.in_ok-place.place) c.in_ok-table.ensures.most c.in_ok-place.ensures.most) c.in_err-index.ensures.most))
+
+pub returns-in_err-br_table-clause-most : goal.returns-in_err-br_table-clause-most
+returns-in_err-br_table-clause-most g c =
+    adds_err {A = ℕ} (so_many 8 10 1 1) c.args.bx.now c.br_table.new.self c.in_err-br_table.field-0.0 c.from_residual-in_err-br_table.result c.from_residual-in_err-br_table.ensures.1
+    (then_many 8 9 1 1 0 1 0 0 c.args.bx.now c.emit_index.new.bx c.br_table.new.self c.in_ok-index.index (Err c.in_err-br_table.field-0.0)
+    (then_many 4 4 0 1 4 5 1 0 c.args.bx.now c.emit_difference.new.bx c.emit_index.new.bx c.in_ok-place.place (Ok c.in_ok-index.index)
+    (then_many 0 0 0 1 4 4 0 0 c.args.bx.now c.jump_table.new.bx c.emit_difference.new.bx c.in_ok-table.table (Ok c.in_ok-place.place) c.in_ok-table.ensures.most c.in_ok-place.ensures.most) c.in_ok-index.ensures.most)
+    (served_many c.emit_index.new.bx c.br_table.new.self c.in_ok-table.table c.in_ok-index.index (Err c.in_err-br_table.field-0.0) c.in_ok-index.ensures.gives.current c.in_err-br_table.ensures.built))
+
+pub returns-clause-most : goal.returns-clause-most
+returns-clause-most g c =
+    adds_ok (so_many 8 10 1 1) c.args.bx.now c.br_table.new.self c.in_ok-br_table.field-0 (tt {0})
+    (then_many 8 9 1 1 0 1 0 0 c.args.bx.now c.emit_index.new.bx c.br_table.new.self c.in_ok-index.index (Ok c.in_ok-br_table.field-0)
+    (then_many 4 4 0 1 4 5 1 0 c.args.bx.now c.emit_difference.new.bx c.emit_index.new.bx c.in_ok-place.place (Ok c.in_ok-index.index)
+    (then_many 0 0 0 1 4 4 0 0 c.args.bx.now c.jump_table.new.bx c.emit_difference.new.bx c.in_ok-table.table (Ok c.in_ok-place.place) c.in_ok-table.ensures.most c.in_ok-place.ensures.most) c.in_ok-index.ensures.most)
+    (served_many c.emit_index.new.bx c.br_table.new.self c.in_ok-table.table c.in_ok-index.index (Ok c.in_ok-br_table.field-0) c.in_ok-index.ensures.gives.current c.in_ok-br_table.ensures.built))

@@ -1,10 +1,11 @@
 -- Blocks are made for other nodes, and a branch behind them.
 use Rattle.std.proofs.Common.{◌≡◌, ◌<◌, ◌+◌, ℕ, suc, List, [], ◌∷◌, ◌++◌, length, refl, sym, ◌∙◌, subst, arith, append_assoc}
-use Rattle.std.specs.Prelude.{All, Contains, Ok, OnOk, Result, slice_index_or}
+use Rattle.std.specs.Prelude.{All, Contains, Err, Ok, OnOk, Result, slice_index_or}
 use Rattle.std.specs.List.{AllZip}
 use Rattle.std.proofs.lemmas.Grind.{get_or_default_zero}
 use Rattle.clif_types.specs.declared.condcodes.IntCC.TheVariants.{UnsignedGreaterThanOrEqual}
 use Rattle.clif_types.specs.declared.error.BuildError.{BuildError}
+use Rattle.clif_inst_builder.specs.Shapes as shapes
 use Rattle.clif_ranges.specs.Search.{named_by, number_of}
 use Rattle.clif_ranges.specs.declared.search.Test.{Test}
 use Rattle.clif_meaning.specs.Name.{Name, answer_of}
@@ -18,6 +19,10 @@ use Rattle.clif_switch.proofs.Numbers.{one_after, place_after}
 use Rattle.clif_switch.proofs.Targets.{zip_more}
 use Rattle.clif_switch.proofs.Tests.{adds_ended, adds_push, ends_behind, jump_made, names_after, names_then, same_after}
 use Rattle.clif_switch.proofs.Values.{done, went_then}
+use Rattle.clif_builder.specs.Adding.{AddsAtMost}
+use Rattle.clif_builder.proofs.Adding.{adds_err, adds_ok}
+use Rattle.clif_switch_calls.specs.SwitchSizes.{so_many, test_makes}
+use Rattle.clif_switch.proofs.Sized.{built_many, fewer_many, then_many}
 use Rattle.clif_switch.proofs.emission.emit_test.Goals as goal
 
 pub returns-in_ok-jump-in-Nothing-clause-ends : goal.returns-in_ok-jump-in-Nothing-clause-ends
@@ -118,3 +123,56 @@ returns-in-Table-clause-made g c = λ signature calls s cases plain at names nee
     subst (λ (t : Test). OnOk c.emit_table.result ((on : StandsOn at (test_calls s (tables_at at) t (next_place calls plain)) c.emit_table.new.bx)
     × AllZip (NamesBlock (calls ++ on.later.added)) (names ++ blocks_of t (next_place calls plain)) c.args.blocks.now.items)) (sym c.in-Table.is)
     (same_after at _ c.emit_table.new.bx names c.args.blocks.now.items c.emit_table.result zip (c.emit_table.ensures.made signature calls s cases plain at here))
+
+-- SIZES -------------------------------------------------------------------------------------------------------------------
+
+pub returns-in_err-jump-in-Nothing-clause-most : goal.returns-in_err-jump-in-Nothing-clause-most
+returns-in_err-jump-in-Nothing-clause-most g c =
+    subst (λ (t : Test). AddsAtMost (test_makes t) c.args.bx.now c.jump.new.self c.from_residual.result) (sym c.in-Nothing.is)
+    (adds_err {A = ℕ} (so_many 0 1 0 0) c.args.bx.now c.jump.new.self c.in_err-jump-in-Nothing.field-0.0 c.from_residual.result c.from_residual.ensures.1
+    (built_many c.args.bx.now c.jump.new.self (shapes.jump c.args.switched.otherwise []) _ (Err c.in_err-jump-in-Nothing.field-0.0) refl c.requires.current c.in_err-jump-in-Nothing.ensures.built))
+
+pub returns-in_ok-jump-in-Nothing-clause-most : goal.returns-in_ok-jump-in-Nothing-clause-most
+returns-in_ok-jump-in-Nothing-clause-most g c =
+    subst (λ (t : Test). AddsAtMost (test_makes t) c.args.bx.now c.jump.new.self done) (sym c.in-Nothing.is)
+    (adds_ok (so_many 0 1 0 0) c.args.bx.now c.jump.new.self c.in_ok-jump-in-Nothing.field-0 (tt {0})
+    (built_many c.args.bx.now c.jump.new.self (shapes.jump c.args.switched.otherwise []) _ (Ok c.in_ok-jump-in-Nothing.field-0) refl c.requires.current c.in_ok-jump-in-Nothing.ensures.built))
+
+pub returns-in_err-other-in-OneKey-clause-most : goal.returns-in_err-other-in-OneKey-clause-most
+returns-in_err-other-in-OneKey-clause-most g c =
+    subst (λ (t : Test). AddsAtMost (test_makes t) c.args.bx.now c.block_for.new.bx c.from_residual-in_err-other-in-OneKey.result) (sym c.in-OneKey.is)
+    (adds_err {A = ℕ} (so_many 4 5 (length (number_of c.in-OneKey.other)) 0) c.args.bx.now c.block_for.new.bx c.in_err-other-in-OneKey.field-0.0 c.from_residual-in_err-other-in-OneKey.result c.from_residual-in_err-other-in-OneKey.ensures.1
+    (fewer_many 0 0 (length (number_of c.in-OneKey.other)) 0 4 5 (length (number_of c.in-OneKey.other)) 0 c.args.bx.now c.block_for.new.bx (Err c.in_err-other-in-OneKey.field-0.0) (omega arith) (omega arith) (omega arith) (omega arith) c.in_err-other-in-OneKey.ensures.most))
+
+pub returns-in_ok-other-in-OneKey-clause-most : goal.returns-in_ok-other-in-OneKey-clause-most
+returns-in_ok-other-in-OneKey-clause-most g c =
+    subst (λ (t : Test). AddsAtMost (test_makes t) c.args.bx.now c.branch_on_key.new.bx c.branch_on_key.result) (sym c.in-OneKey.is)
+    (fewer_many 4 5 (length (number_of c.in-OneKey.other) + 0) 0 4 5 (length (number_of c.in-OneKey.other)) 0 c.args.bx.now c.branch_on_key.new.bx c.branch_on_key.result (omega arith) (omega arith) (omega arith) (omega arith)
+    (then_many 0 0 (length (number_of c.in-OneKey.other)) 0 4 5 0 0 c.args.bx.now c.block_for.new.bx c.branch_on_key.new.bx c.in_ok-other-in-OneKey.other c.branch_on_key.result c.in_ok-other-in-OneKey.ensures.most c.branch_on_key.ensures.most))
+
+pub returns-in_err-other-in-NotBelow-clause-most : goal.returns-in_err-other-in-NotBelow-clause-most
+returns-in_err-other-in-NotBelow-clause-most g c =
+    subst (λ (t : Test). AddsAtMost (test_makes t) c.args.bx.now c.block_for-in-NotBelow.new.bx c.from_residual-in_err-other-in-NotBelow.result) (sym c.in-NotBelow.is)
+    (adds_err {A = ℕ} (so_many 4 5 (suc (length (number_of c.in-NotBelow.other))) 0) c.args.bx.now c.block_for-in-NotBelow.new.bx c.in_err-other-in-NotBelow.field-0.0 c.from_residual-in_err-other-in-NotBelow.result
+    c.from_residual-in_err-other-in-NotBelow.ensures.1
+    (fewer_many 0 0 (length (number_of c.in-NotBelow.other)) 0 4 5 (suc (length (number_of c.in-NotBelow.other))) 0 c.args.bx.now c.block_for-in-NotBelow.new.bx (Err c.in_err-other-in-NotBelow.field-0.0) (omega arith) (omega arith) (omega arith) (omega arith) c.in_err-other-in-NotBelow.ensures.most))
+
+pub returns-in_err-above-in-NotBelow-clause-most : goal.returns-in_err-above-in-NotBelow-clause-most
+returns-in_err-above-in-NotBelow-clause-most g c =
+    subst (λ (t : Test). AddsAtMost (test_makes t) c.args.bx.now c.new_block.new.bx c.from_residual-in_err-above-in-NotBelow.result) (sym c.in-NotBelow.is)
+    (adds_err {A = ℕ} (so_many 4 5 (suc (length (number_of c.in-NotBelow.other))) 0) c.args.bx.now c.new_block.new.bx c.in_err-above-in-NotBelow.field-0.0 c.from_residual-in_err-above-in-NotBelow.result
+    c.from_residual-in_err-above-in-NotBelow.ensures.1
+    (fewer_many 0 0 (length (number_of c.in-NotBelow.other) + 1) 0 4 5 (suc (length (number_of c.in-NotBelow.other))) 0 c.args.bx.now c.new_block.new.bx (Err c.in_err-above-in-NotBelow.field-0.0) (omega arith) (omega arith) (omega arith) (omega arith)
+    (then_many 0 0 (length (number_of c.in-NotBelow.other)) 0 0 0 1 0 c.args.bx.now c.block_for-in-NotBelow.new.bx c.new_block.new.bx c.in_ok-other-in-NotBelow.other (Err c.in_err-above-in-NotBelow.field-0.0) c.in_ok-other-in-NotBelow.ensures.most c.in_err-above-in-NotBelow.ensures.most)))
+
+pub returns-in_ok-above-in-NotBelow-clause-most : goal.returns-in_ok-above-in-NotBelow-clause-most
+returns-in_ok-above-in-NotBelow-clause-most g c =
+    subst (λ (t : Test). AddsAtMost (test_makes t) c.args.bx.now c.branch_on.new.bx c.branch_on.result) (sym c.in-NotBelow.is)
+    (fewer_many 4 5 (length (number_of c.in-NotBelow.other) + 1 + 0) 0 4 5 (suc (length (number_of c.in-NotBelow.other))) 0 c.args.bx.now c.branch_on.new.bx c.branch_on.result (omega arith) (omega arith) (omega arith) (omega arith)
+    (then_many 0 0 (length (number_of c.in-NotBelow.other) + 1) 0 4 5 0 0 c.args.bx.now c.new_block.new.bx c.branch_on.new.bx c.in_ok-above-in-NotBelow.above c.branch_on.result
+    (then_many 0 0 (length (number_of c.in-NotBelow.other)) 0 0 0 1 0 c.args.bx.now c.block_for-in-NotBelow.new.bx c.new_block.new.bx c.in_ok-other-in-NotBelow.other (Ok c.in_ok-above-in-NotBelow.above) c.in_ok-other-in-NotBelow.ensures.most c.in_ok-above-in-NotBelow.ensures.most)
+    c.branch_on.ensures.most))
+
+pub returns-in-Table-clause-most : goal.returns-in-Table-clause-most
+returns-in-Table-clause-most g c =
+    subst (λ (t : Test). AddsAtMost (test_makes t) c.args.bx.now c.emit_table.new.bx c.emit_table.result) (sym c.in-Table.is) c.emit_table.ensures.most

@@ -15,13 +15,13 @@ open_in_entry : (g : Over) (c : After-ins g) (block : ℕ) → c.in_ok-entry.ent
 open_in_entry g c block above was =
     let n = c.in_ok-n.ensures in
     let sealed = c.in_ok-seal_block.ensures in
-    open_sealed c.in_ok-entry.entry sealed.call sealed.grows sealed.others (not_below above)
-    (open_moved c.in_ok-entry.entry c.switch_to_block.ensures.builder (open_kept (same_context n.call n.grows n.context) was))
+    open_sealed c.in_ok-entry.entry sealed.call sealed.goes_on.grows sealed.seals.others (not_below above)
+    (open_moved c.in_ok-entry.entry c.switch_to_block.ensures.builder (open_kept (same_context n.call n.goes_on.grows n.context) was))
 
 unfilled_in_entry : (g : Over) (c : After-ins g) (block : ℕ) → IsUnfilled c.create_block-4.new.self block → IsUnfilled c.seal_block.new.self block
 unfilled_in_entry g c block was =
     let n = c.in_ok-n.ensures in
-    unfilled_called c.in_ok-seal_block.ensures.call (unfilled_moved c.in_ok-entry.entry c.switch_to_block.ensures.builder (unfilled_kept (same_context n.call n.grows n.context) was))
+    unfilled_called c.in_ok-seal_block.ensures.call (unfilled_moved c.in_ok-entry.entry c.switch_to_block.ensures.builder (unfilled_kept (same_context n.call n.goes_on.grows n.context) was))
 
 in_entry : (g : Over) (c : After-ins g) → c.seal_block.new.self.position ≡ Some c.in_ok-entry.entry
 in_entry g c = c.in_ok-seal_block.ensures.call.position ∙ ap (λ (b : FunctionBuilder _). b.position) c.switch_to_block.ensures.builder
@@ -57,12 +57,12 @@ seven_made : (g : Over) (c : After-ins g) → IsOpen c.create_block-4.new.self c
 seven_made g c =
     let seven = c.in_ok-seven.ensures in
     let other = c.in_ok-other.ensures in
-    open_kept (created other.call other.grows other.sealed other.variables) (made_open seven.exists seven.untouched)
+    open_kept (created other.call other.goes_on.grows other.sealed other.variables) (made_open seven.exists seven.untouched)
 
 seven_fresh : (g : Over) (c : After-ins g) → IsUnfilled c.create_block-4.new.self c.in_ok-seven.seven
 seven_fresh g c =
     let other = c.in_ok-other.ensures in
-    unfilled_kept (created other.call other.grows other.sealed other.variables) (made_unfilled c.in_ok-seven.ensures.untouched)
+    unfilled_kept (created other.call other.goes_on.grows other.sealed other.variables) (made_unfilled c.in_ok-seven.ensures.untouched)
 
 other_made : (g : Over) (c : After-ins g) → IsOpen c.create_block-4.new.self c.in_ok-other.other
 other_made g c = let other = c.in_ok-other.ensures in made_open other.exists other.untouched
@@ -81,7 +81,7 @@ in_zero g c = (zero_kept g c).position ∙ c.in_ok-seal_block-2.ensures.call.pos
 open_in_zero : (g : Over) (c : After-ins-2 g) (block : ℕ) → c.in_ok-zero.zero < block → IsOpen c.go_by.new.builder block → IsOpen c.ins-2.result.now block
 open_in_zero g c block above was =
     let sealed = c.in_ok-seal_block-2.ensures in
-    open_kept (zero_kept g c) (open_sealed c.in_ok-zero.zero sealed.call sealed.grows sealed.others (not_below above)
+    open_kept (zero_kept g c) (open_sealed c.in_ok-zero.zero sealed.call sealed.goes_on.grows sealed.seals.others (not_below above)
     (open_moved c.in_ok-zero.zero c.switch_to_block-2.ensures.builder was))
 
 unfilled_in_zero : (g : Over) (c : After-ins-2 g) (block : ℕ) → IsUnfilled c.go_by.new.builder block → IsUnfilled c.ins-2.result.now block
@@ -107,10 +107,10 @@ seal_block-requires-3-clause-unsealed g c =
 
 pub iconst-requires-2-clause-current : goal.iconst-requires-2-clause-current
 iconst-requires-2-clause-current g c =
-    subst HasCurrent (sym c.ins-3.ensures.builder) (c.in_ok-seal_block-3.ensures.current c.switch_to_block-3.ensures.current)
+    subst HasCurrent (sym c.ins-3.ensures.builder) (c.in_ok-seal_block-3.ensures.goes_on.current c.switch_to_block-3.ensures.current)
 
 pub ins-requires-3 : goal.ins-requires-3
-ins-requires-3 g c = c.in_ok-seal_block-3.ensures.current c.switch_to_block-3.ensures.current
+ins-requires-3 g c = c.in_ok-seal_block-3.ensures.goes_on.current c.switch_to_block-3.ensures.current
 
 seven_kept : (g : Over) (c : After-ins-4 g) → Keeps c.seal_block-3.new.self c.ins-4.result.now
 seven_kept g c = lent_on (valued c.ins-3.ensures.builder c.in_ok-two.ensures.built (c.builder-18-1.given.1 (sym c.ins-3.ensures.same))) c.ins-4.ensures.builder
@@ -121,7 +121,7 @@ in_seven g c = (seven_kept g c).position ∙ c.in_ok-seal_block-3.ensures.call.p
 open_in_seven : (g : Over) (c : After-ins-4 g) (block : ℕ) → c.in_ok-seven.seven < block → IsOpen c.ins-2.result.now block → IsOpen c.ins-4.result.now block
 open_in_seven g c block above was =
     let sealed = c.in_ok-seal_block-3.ensures in
-    open_kept (seven_kept g c) (open_sealed c.in_ok-seven.seven sealed.call sealed.grows sealed.others (not_below above)
+    open_kept (seven_kept g c) (open_sealed c.in_ok-seven.seven sealed.call sealed.goes_on.grows sealed.seals.others (not_below above)
     (open_moved c.in_ok-seven.seven c.switch_to_block-3.ensures.builder
     (open_ended c.in_ok-return_.ensures.built (c.builder-14-1.given.1 (sym c.ins-2.ensures.same)) was)))
 
@@ -154,11 +154,11 @@ seal_block-requires-4-clause-unsealed g c =
     (open_in_seven g at.After-ins-4 block (seven_other g entry) before))).unsealed
 
 pub ins-requires-5 : goal.ins-requires-5
-ins-requires-5 g c = c.in_ok-seal_block-4.ensures.current c.switch_to_block-4.ensures.current
+ins-requires-5 g c = c.in_ok-seal_block-4.ensures.goes_on.current c.switch_to_block-4.ensures.current
 
 pub return_-requires-3-clause-current : goal.return_-requires-3-clause-current
 return_-requires-3-clause-current g c =
-    subst HasCurrent (sym c.ins-5.ensures.builder) (c.in_ok-seal_block-4.ensures.current c.switch_to_block-4.ensures.current)
+    subst HasCurrent (sym c.ins-5.ensures.builder) (c.in_ok-seal_block-4.ensures.goes_on.current c.switch_to_block-4.ensures.current)
 
 -- THE PARAMETER ---------------------------------------------------------------------------------------------------------
 
@@ -166,16 +166,16 @@ to_zero : (g : Over) (c : After-ins-2 g) → Carries c.append_block_param.new.se
 to_zero g c =
     let first = c.in_ok-seal_block.ensures in
     let second = c.in_ok-seal_block-2.ensures in
-    carries_then (carries_moved c.in_ok-entry.entry c.switch_to_block.ensures.builder) (carries_then (carries_called first.call first.grows first.variables)
+    carries_then (carries_moved c.in_ok-entry.entry c.switch_to_block.ensures.builder) (carries_then (carries_called first.call first.goes_on.grows first.leaves.variables)
     (carries_then (carries_chosen c.in_ok-go_by.ensures) (carries_then (carries_moved c.in_ok-zero.zero c.switch_to_block-2.ensures.builder)
-    (carries_then (carries_called second.call second.grows second.variables) (carries_kept (zero_kept g c))))))
+    (carries_then (carries_called second.call second.goes_on.grows second.leaves.variables) (carries_kept (zero_kept g c))))))
 
 to_seven : (g : Over) (c : After-ins-4 g) → Carries c.ins-2.result.now c.ins-4.result.now
 to_seven g c =
     let third = c.in_ok-seal_block-3.ensures in
     carries_then (carries_ended c.in_ok-return_.ensures.built (c.builder-14-1.given.1 (sym c.ins-2.ensures.same)))
     (carries_then (carries_moved c.in_ok-seven.seven c.switch_to_block-3.ensures.builder)
-    (carries_then (carries_called third.call third.grows third.variables) (carries_kept (seven_kept g c))))
+    (carries_then (carries_called third.call third.goes_on.grows third.leaves.variables) (carries_kept (seven_kept g c))))
 
 pub return_-requires-3-clause-values_exist : goal.return_-requires-3-clause-values_exist
 return_-requires-3-clause-values_exist g c =
@@ -184,5 +184,5 @@ return_-requires-3-clause-values_exist g c =
     let to_other : Carries c.ins-4.result.now c.ins-5.result.now =
     carries_then (carries_ended c.in_ok-return_-2.ensures.built (c.builder-20-1.given.1 (sym c.ins-4.ensures.same)))
     (carries_then (carries_moved c.in_ok-other.other c.switch_to_block-4.ensures.builder)
-    (carries_then (carries_called fourth.call fourth.grows fourth.variables) (carries_kept (same c.ins-5.ensures.builder)))) in
+    (carries_then (carries_called fourth.call fourth.goes_on.grows fourth.leaves.variables) (carries_kept (same c.ins-5.ensures.builder)))) in
     one_exists (omega (arith, c.in_ok-n.ensures.exists, (to_zero g at.After-ins-2).values, (to_seven g at.After-ins-4).values, to_other.values))

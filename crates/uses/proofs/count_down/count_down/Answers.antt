@@ -15,7 +15,7 @@ entry_kept g c =
     let first = c.in_ok-def_var.ensures in
     let second = c.in_ok-def_var-2.ensures in
     let zero : Keeps c.def_var.new.self c.builder-12-1.given.0 = valued c.ins.ensures.builder c.in_ok-zero.ensures.built (c.builder-12-1.given.1 (sym c.ins.ensures.same)) in
-    lent_on (and_then (assigned first.call first.grows first.sealed first.variables) (and_then zero (assigned second.call second.grows second.sealed second.variables)))
+    lent_on (and_then (assigned first.call first.goes_on.grows first.sealed first.variables) (and_then zero (assigned second.call second.goes_on.grows second.sealed second.variables)))
     c.ins-2.ensures.builder
 
 -- a block that was made after it, where it jumps
@@ -23,14 +23,14 @@ open_in_entry : (g : Over) (c : After-ins-2 g) (block : ℕ) → c.in_ok-entry.e
 open_in_entry g c block above was =
     let start = c.in_ok-start.ensures in
     let sealed = c.in_ok-seal_block.ensures in
-    open_kept (entry_kept g c) (open_sealed c.in_ok-entry.entry sealed.call sealed.grows sealed.others (not_below above)
-    (open_moved c.in_ok-entry.entry c.switch_to_block.ensures.builder (open_kept (same_context start.call start.grows start.context) was)))
+    open_kept (entry_kept g c) (open_sealed c.in_ok-entry.entry sealed.call sealed.goes_on.grows sealed.seals.others (not_below above)
+    (open_moved c.in_ok-entry.entry c.switch_to_block.ensures.builder (open_kept (same_context start.call start.goes_on.grows start.context) was)))
 
 unfilled_in_entry : (g : Over) (c : After-ins-2 g) (block : ℕ) → IsUnfilled c.create_block-4.new.self block → IsUnfilled c.ins-2.result.now block
 unfilled_in_entry g c block was =
     let start = c.in_ok-start.ensures in
     unfilled_kept (entry_kept g c) (unfilled_called c.in_ok-seal_block.ensures.call
-    (unfilled_moved c.in_ok-entry.entry c.switch_to_block.ensures.builder (unfilled_kept (same_context start.call start.grows start.context) was)))
+    (unfilled_moved c.in_ok-entry.entry c.switch_to_block.ensures.builder (unfilled_kept (same_context start.call start.goes_on.grows start.context) was)))
 
 in_entry : (g : Over) (c : After-ins-2 g) → c.ins-2.result.now.position ≡ Some c.in_ok-entry.entry
 in_entry g c = (entry_kept g c).position ∙ c.in_ok-seal_block.ensures.call.position ∙ ap (λ (b : FunctionBuilder _). b.position) c.switch_to_block.ensures.builder
@@ -46,10 +46,10 @@ body_exit : (g : Over) (c : After-ins-2 g) → c.in_ok-body.body < c.in_ok-exit.
 body_exit g c = made_before c.in_ok-body.ensures.exists c.in_ok-exit.ensures.number
 
 made_after_body : (g : Over) (c : After-ins-2 g) → Keeps c.create_block-3.new.self c.create_block-4.new.self
-made_after_body g c = let exit = c.in_ok-exit.ensures in created exit.call exit.grows exit.sealed exit.variables
+made_after_body g c = let exit = c.in_ok-exit.ensures in created exit.call exit.goes_on.grows exit.sealed exit.variables
 
 made_after_header : (g : Over) (c : After-ins-2 g) → Keeps c.create_block-2.new.self c.create_block-4.new.self
-made_after_header g c = let body = c.in_ok-body.ensures in and_then (created body.call body.grows body.sealed body.variables) (made_after_body g c)
+made_after_header g c = let body = c.in_ok-body.ensures in and_then (created body.call body.goes_on.grows body.sealed body.variables) (made_after_body g c)
 
 header_open : (g : Over) (c : After-ins-2 g) → IsOpen c.ins-2.result.now c.in_ok-header.header
 header_open g c =
@@ -86,7 +86,7 @@ switch_to_block-requires-2-clause-unfilled g c =
 -- THE BLOCK `header` ----------------------------------------------------------------------------------------------------
 
 header_kept : (g : Over) (c : After-ins-3 g) → Keeps c.switch_to_block-2.new.self c.ins-3.result.now
-header_kept g c = let left = c.in_ok-left.ensures in lent_on (called left.call left.grows left.seals left.variables) c.ins-3.ensures.builder
+header_kept g c = let left = c.in_ok-left.ensures in lent_on (called left.call left.goes_on.grows left.used.seals left.used.variables) c.ins-3.ensures.builder
 
 in_header : (g : Over) (c : After-ins-3 g) → c.ins-3.result.now.position ≡ Some c.in_ok-header.header
 in_header g c = (header_kept g c).position ∙ ap (λ (b : FunctionBuilder _). b.position) c.switch_to_block-2.ensures.builder
@@ -123,7 +123,7 @@ pub seal_block-requires-3-clause-unsealed : goal.seal_block-requires-3-clause-un
 seal_block-requires-3-clause-unsealed g c =
     let at = goal.at.seal_block-requires-3-clause-unsealed g c in
     let sealed = c.in_ok-seal_block-2.ensures in
-    (open_sealed c.in_ok-body.body sealed.call sealed.grows sealed.others (not_below (body_exit g at.After-ins-2))
+    (open_sealed c.in_ok-body.body sealed.call sealed.goes_on.grows sealed.seals.others (not_below (body_exit g at.After-ins-2))
     (open_ended c.in_ok-brif.ensures.built (c.builder-19-1.given.1 (sym c.ins-3.ensures.same))
     (open_in_header g at.After-ins-3 c.in_ok-exit.exit (exit_open g at.After-ins-2)))).unsealed
 
@@ -143,8 +143,8 @@ pub def_var-requires-3-clause-same_type : goal.def_var-requires-3-clause-same_ty
 def_var-requires-3-clause-same_type g c =
     let before = c.in_ok-before.ensures in
     let count = c.in_ok-count.ensures in
-    typed_alike c.in_ok-sum.sum c.in_ok-before.before before.typed before.variables before.exists
-    (carries_kept (lent_on (called count.call count.grows count.seals count.variables) c.ins-4.ensures.builder))
+    typed_alike c.in_ok-sum.sum c.in_ok-before.before before.used.typed before.used.variables before.used.exists
+    (carries_kept (lent_on (called count.call count.goes_on.grows count.used.seals count.used.variables) c.ins-4.ensures.builder))
     c.in_ok-after.ensures.built (c.builder-26-1.given.1 (sym c.ins-4.ensures.same)) refl
 
 pub def_var-requires-4-clause-same_type : goal.def_var-requires-4-clause-same_type
@@ -153,8 +153,8 @@ def_var-requires-4-clause-same_type g c =
     let sum = c.in_ok-def_var-3.ensures in
     let after : Keeps c.use_var-3.new.self c.builder-26-1.given.0 = valued c.ins-4.ensures.builder c.in_ok-after.ensures.built (c.builder-26-1.given.1 (sym c.ins-4.ensures.same)) in
     let one : Keeps c.def_var-3.new.self c.builder-29-1.given.0 = valued c.ins-5.ensures.builder c.in_ok-one.ensures.built (c.builder-29-1.given.1 (sym c.ins-5.ensures.same)) in
-    typed_alike c.in_ok-n.n c.in_ok-count.count count.typed count.variables count.exists
-    (carries_kept (lent_on (and_then after (and_then (assigned sum.call sum.grows sum.sealed sum.variables) one)) c.ins-6.ensures.builder))
+    typed_alike c.in_ok-n.n c.in_ok-count.count count.used.typed count.used.variables count.used.exists
+    (carries_kept (lent_on (and_then after (and_then (assigned sum.call sum.goes_on.grows sum.sealed sum.variables) one)) c.ins-6.ensures.builder))
     c.in_ok-less.ensures.built (c.builder-31-1.given.1 (sym c.ins-6.ensures.same)) refl
 
 pub isub-requires-clause-current : goal.isub-requires-clause-current
@@ -175,8 +175,8 @@ body_kept g c =
     let after : Keeps c.use_var-3.new.self c.builder-26-1.given.0 = valued c.ins-4.ensures.builder c.in_ok-after.ensures.built (c.builder-26-1.given.1 (sym c.ins-4.ensures.same)) in
     let one : Keeps c.def_var-3.new.self c.builder-29-1.given.0 = valued c.ins-5.ensures.builder c.in_ok-one.ensures.built (c.builder-29-1.given.1 (sym c.ins-5.ensures.same)) in
     let less : Keeps c.builder-29-1.given.0 c.builder-31-1.given.0 = valued c.ins-6.ensures.builder c.in_ok-less.ensures.built (c.builder-31-1.given.1 (sym c.ins-6.ensures.same)) in
-    lent_on (and_then (called before.call before.grows before.seals before.variables) (and_then (called count.call count.grows count.seals count.variables)
-    (and_then after (and_then (assigned sum.call sum.grows sum.sealed sum.variables) (and_then one (and_then less (assigned n.call n.grows n.sealed n.variables)))))))
+    lent_on (and_then (called before.call before.goes_on.grows before.used.seals before.used.variables) (and_then (called count.call count.goes_on.grows count.used.seals count.used.variables)
+    (and_then after (and_then (assigned sum.call sum.goes_on.grows sum.sealed sum.variables) (and_then one (and_then less (assigned n.call n.goes_on.grows n.sealed n.variables)))))))
     c.ins-7.ensures.builder
 
 in_body : (g : Over) (c : After-ins-7 g) → c.ins-7.result.now.position ≡ Some c.in_ok-body.body
@@ -189,7 +189,7 @@ header_open_in_body g c before_body before_exit was =
     let exit = c.in_ok-seal_block-3.ensures in
     let below : c.in_ok-header.header < c.in_ok-exit.exit = omega (arith, before_body, before_exit) in
     open_kept (body_kept g c) (open_moved c.in_ok-body.body c.switch_to_block-3.ensures.builder
-    (open_sealed c.in_ok-exit.exit exit.call exit.grows exit.others (not_above below) (open_sealed c.in_ok-body.body body.call body.grows body.others (not_above before_body)
+    (open_sealed c.in_ok-exit.exit exit.call exit.goes_on.grows exit.seals.others (not_above below) (open_sealed c.in_ok-body.body body.call body.goes_on.grows body.seals.others (not_above before_body)
     (open_ended c.in_ok-brif.ensures.built (c.builder-19-1.given.1 (sym c.ins-3.ensures.same)) was))))
 
 pub jump-requires-2-clause-leads : goal.jump-requires-2-clause-leads
@@ -241,14 +241,14 @@ switch_to_block-requires-4-clause-exists g c =
     let body = body_kept g at.After-ins-7 in
     omega (
       arith,
-      before.exists,
-      c.in_ok-seal_block-2.ensures.grows.2,
-      c.in_ok-seal_block-3.ensures.grows.2,
+      before.used.exists,
+      c.in_ok-seal_block-2.ensures.goes_on.grows.2,
+      c.in_ok-seal_block-3.ensures.goes_on.grows.2,
       entered,
-      body.grows.2,
+      body.goes_on.grows.2,
       c.in_ok-jump-2.ensures.built.grows.2,
       came,
-      c.in_ok-seal_block-4.ensures.grows.2,
+      c.in_ok-seal_block-4.ensures.goes_on.grows.2,
     )
 
 pub switch_to_block-requires-4-clause-free : goal.switch_to_block-requires-4-clause-free
@@ -258,11 +258,11 @@ switch_to_block-requires-4-clause-free g c =
 pub use_var-requires-4-clause-declared : goal.use_var-requires-4-clause-declared
 use_var-requires-4-clause-declared g c =
     let body = (goal.at.use_var-requires-4-clause-declared g c).After-ins-7 in
-    declared c.switch_to_block-3.new.self.ctx.now.parts.variables c.in_ok-sum.sum _ c.in_ok-before.ensures.typed
+    declared c.switch_to_block-3.new.self.ctx.now.parts.variables c.in_ok-sum.sum _ c.in_ok-before.ensures.used.typed
     (ap (λ (b : FunctionBuilder _). b.ctx.now.parts.variables) c.switch_to_block-4.ensures.builder
-    ∙ c.in_ok-seal_block-4.ensures.variables ∙ ap (λ (b : FunctionBuilder _). b.ctx.now.parts.variables) (c.builder-34-1.given.1 (sym c.ins-7.ensures.same))
+    ∙ c.in_ok-seal_block-4.ensures.leaves.variables ∙ ap (λ (b : FunctionBuilder _). b.ctx.now.parts.variables) (c.builder-34-1.given.1 (sym c.ins-7.ensures.same))
     ∙ c.in_ok-jump-2.ensures.built.variables ∙ (body_kept g body).variables)
 
 pub return_-requires-clause-values_exist : goal.return_-requires-clause-values_exist
 return_-requires-clause-values_exist g c =
-    one_exists (subst (λ (b : FunctionBuilder _). c.in_ok-total.total < length b.func.now.values) (sym c.ins-8.ensures.builder) c.in_ok-total.ensures.exists)
+    one_exists (subst (λ (b : FunctionBuilder _). c.in_ok-total.total < length b.func.now.values) (sym c.ins-8.ensures.builder) c.in_ok-total.ensures.used.exists)

@@ -19,14 +19,14 @@ params_kept g c =
     let first = c.in_ok-c.ensures in
     let second = c.in_ok-a.ensures in
     let third = c.in_ok-b.ensures in
-    and_then (same_context first.call first.grows first.context)
-    (and_then (same_context second.call second.grows second.context) (same_context third.call third.grows third.context))
+    and_then (same_context first.call first.goes_on.grows first.context)
+    (and_then (same_context second.call second.goes_on.grows second.context) (same_context third.call third.goes_on.grows third.context))
 
 -- a block that was made after it, where it ends
 open_in_entry : (g : Over) (c : After-ins g) (block : ℕ) → c.in_ok-entry.entry < block → IsOpen c.create_block-4.new.self block → IsOpen c.ins.result.now block
 open_in_entry g c block above was =
     let sealed = c.in_ok-seal_block.ensures in
-    open_kept (same c.ins.ensures.builder) (open_sealed c.in_ok-entry.entry sealed.call sealed.grows sealed.others (not_below above)
+    open_kept (same c.ins.ensures.builder) (open_sealed c.in_ok-entry.entry sealed.call sealed.goes_on.grows sealed.seals.others (not_below above)
     (open_moved c.in_ok-entry.entry c.switch_to_block.ensures.builder (open_kept (params_kept g c) was)))
 
 unfilled_in_entry : (g : Over) (c : After-ins g) (block : ℕ) → IsUnfilled c.create_block-4.new.self block → IsUnfilled c.ins.result.now block
@@ -59,10 +59,10 @@ then_meeting : (g : Over) (c : After-ins g) → c.in_ok-then_arm.then_arm < c.in
 then_meeting g c = omega (arith, then_else g c, else_meeting g c)
 
 made_after_else : (g : Over) (c : After-ins g) → Keeps c.create_block-3.new.self c.create_block-4.new.self
-made_after_else g c = let meeting = c.in_ok-meeting.ensures in created meeting.call meeting.grows meeting.sealed meeting.variables
+made_after_else g c = let meeting = c.in_ok-meeting.ensures in created meeting.call meeting.goes_on.grows meeting.sealed meeting.variables
 
 made_after_then : (g : Over) (c : After-ins g) → Keeps c.create_block-2.new.self c.create_block-4.new.self
-made_after_then g c = let arm = c.in_ok-else_arm.ensures in and_then (created arm.call arm.grows arm.sealed arm.variables) (made_after_else g c)
+made_after_then g c = let arm = c.in_ok-else_arm.ensures in and_then (created arm.call arm.goes_on.grows arm.sealed arm.variables) (made_after_else g c)
 
 then_open : (g : Over) (c : After-ins g) → IsOpen c.ins.result.now c.in_ok-then_arm.then_arm
 then_open g c =
@@ -111,7 +111,7 @@ then_kept : (g : Over) (c : After-ins-3 g) → Keeps c.seal_block-2.new.self c.i
 then_kept g c =
     let assigned_x = c.in_ok-def_var.ensures in
     lent_on (and_then (valued c.ins-2.ensures.builder c.in_ok-difference.ensures.built (c.builder-16-1.given.1 (sym c.ins-2.ensures.same)))
-    (assigned assigned_x.call assigned_x.grows assigned_x.sealed assigned_x.variables)) c.ins-3.ensures.builder
+    (assigned assigned_x.call assigned_x.goes_on.grows assigned_x.sealed assigned_x.variables)) c.ins-3.ensures.builder
 
 in_then : (g : Over) (c : After-ins-3 g) → c.ins-3.result.now.position ≡ Some c.in_ok-then_arm.then_arm
 in_then g c = (then_kept g c).position ∙ c.in_ok-seal_block-2.ensures.call.position ∙ ap (λ (b : FunctionBuilder _). b.position) c.switch_to_block-2.ensures.builder
@@ -119,7 +119,7 @@ in_then g c = (then_kept g c).position ∙ c.in_ok-seal_block-2.ensures.call.pos
 open_in_then : (g : Over) (c : After-ins-3 g) (block : ℕ) → c.in_ok-then_arm.then_arm < block → IsOpen c.ins.result.now block → IsOpen c.ins-3.result.now block
 open_in_then g c block above was =
     let sealed = c.in_ok-seal_block-2.ensures in
-    open_kept (then_kept g c) (open_sealed c.in_ok-then_arm.then_arm sealed.call sealed.grows sealed.others (not_below above)
+    open_kept (then_kept g c) (open_sealed c.in_ok-then_arm.then_arm sealed.call sealed.goes_on.grows sealed.seals.others (not_below above)
     (open_moved c.in_ok-then_arm.then_arm c.switch_to_block-2.ensures.builder
     (open_ended c.in_ok-brif.ensures.built (c.builder-12-1.given.1 (sym c.ins.ensures.same)) was)))
 
@@ -142,10 +142,10 @@ typed g c =
     let two = c.in_ok-a.ensures in
     let three = c.in_ok-b.ensures in
     let made : Keeps c.declare_var.new.self c.append_block_param-3.new.self =
-    and_then (created entry.call entry.grows entry.sealed entry.variables) (and_then (created first.call first.grows first.sealed first.variables)
-    (and_then (created second.call second.grows second.sealed second.variables) (and_then (created third.call third.grows third.sealed third.variables)
-    (and_then (same_context one.call one.grows one.context)
-    (and_then (same_context two.call two.grows two.context) (same_context three.call three.grows three.context)))))) in
+    and_then (created entry.call entry.goes_on.grows entry.sealed entry.variables) (and_then (created first.call first.goes_on.grows first.sealed first.variables)
+    (and_then (created second.call second.goes_on.grows second.sealed second.variables) (and_then (created third.call third.goes_on.grows third.sealed third.variables)
+    (and_then (same_context one.call one.goes_on.grows one.context)
+    (and_then (same_context two.call two.goes_on.grows two.context) (same_context three.call three.goes_on.grows three.context)))))) in
     last_declared c.new-builder.result.ctx.now.parts.variables c.in_ok-x.x (Lane I32) x.number (made.variables ∙ ap (λ (d : ContextState). d.variables) x.variables)
 
 -- from the parameters to the first arm
@@ -153,10 +153,10 @@ to_then : (g : Over) (c : After-ins-2 g) → Carries c.append_block_param-3.new.
 to_then g c =
     let entry = c.in_ok-seal_block.ensures in
     let arm = c.in_ok-seal_block-2.ensures in
-    carries_then (carries_moved c.in_ok-entry.entry c.switch_to_block.ensures.builder) (carries_then (carries_called entry.call entry.grows entry.variables)
+    carries_then (carries_moved c.in_ok-entry.entry c.switch_to_block.ensures.builder) (carries_then (carries_called entry.call entry.goes_on.grows entry.leaves.variables)
     (carries_then (carries_kept (same c.ins.ensures.builder)) (carries_then (carries_ended c.in_ok-brif.ensures.built (c.builder-12-1.given.1 (sym c.ins.ensures.same)))
     (carries_then (carries_moved c.in_ok-then_arm.then_arm c.switch_to_block-2.ensures.builder)
-    (carries_then (carries_called arm.call arm.grows arm.variables) (carries_kept (same c.ins-2.ensures.builder)))))))
+    (carries_then (carries_called arm.call arm.goes_on.grows arm.leaves.variables) (carries_kept (same c.ins-2.ensures.builder)))))))
 
 pub def_var-requires-clause-same_type : goal.def_var-requires-clause-same_type
 def_var-requires-clause-same_type g c =
@@ -164,7 +164,7 @@ def_var-requires-clause-same_type g c =
     let a = c.in_ok-a.ensures in
     let b = c.in_ok-b.ensures in
     let same_a : (value_at c.append_block_param-3.new.self.func.now c.in_ok-a.a).ty ≡ Lane I32 = b.call.types c.in_ok-a.a a.exists ∙ a.typed in
-    typed_alike c.in_ok-x.x c.in_ok-a.a (typed g then_arm ∙ ap (λ (ty : «Type»). Some ty) (sym same_a)) refl (omega (arith, a.exists, b.grows.0))
+    typed_alike c.in_ok-x.x c.in_ok-a.a (typed g then_arm ∙ ap (λ (ty : «Type»). Some ty) (sym same_a)) refl (omega (arith, a.exists, b.goes_on.grows.0))
     (to_then g then_arm) c.in_ok-difference.ensures.built (c.builder-16-1.given.1 (sym c.ins-2.ensures.same)) refl
 
 pub jump-requires-clause-leads : goal.jump-requires-clause-leads
@@ -193,7 +193,7 @@ else_kept : (g : Over) (c : After-ins-5 g) → Keeps c.seal_block-3.new.self c.i
 else_kept g c =
     let assigned_x = c.in_ok-def_var-2.ensures in
     lent_on (and_then (valued c.ins-4.ensures.builder c.in_ok-opposite.ensures.built (c.builder-23-1.given.1 (sym c.ins-4.ensures.same)))
-    (assigned assigned_x.call assigned_x.grows assigned_x.sealed assigned_x.variables)) c.ins-5.ensures.builder
+    (assigned assigned_x.call assigned_x.goes_on.grows assigned_x.sealed assigned_x.variables)) c.ins-5.ensures.builder
 
 in_else : (g : Over) (c : After-ins-5 g) → c.ins-5.result.now.position ≡ Some c.in_ok-else_arm.else_arm
 in_else g c = (else_kept g c).position ∙ c.in_ok-seal_block-3.ensures.call.position ∙ ap (λ (b : FunctionBuilder _). b.position) c.switch_to_block-3.ensures.builder
@@ -201,7 +201,7 @@ in_else g c = (else_kept g c).position ∙ c.in_ok-seal_block-3.ensures.call.pos
 open_in_else : (g : Over) (c : After-ins-5 g) (block : ℕ) → c.in_ok-else_arm.else_arm < block → IsOpen c.ins-3.result.now block → IsOpen c.ins-5.result.now block
 open_in_else g c block above was =
     let sealed = c.in_ok-seal_block-3.ensures in
-    open_kept (else_kept g c) (open_sealed c.in_ok-else_arm.else_arm sealed.call sealed.grows sealed.others (not_below above)
+    open_kept (else_kept g c) (open_sealed c.in_ok-else_arm.else_arm sealed.call sealed.goes_on.grows sealed.seals.others (not_below above)
     (open_moved c.in_ok-else_arm.else_arm c.switch_to_block-3.ensures.builder
     (open_ended c.in_ok-jump.ensures.built (c.builder-19-1.given.1 (sym c.ins-3.ensures.same)) was)))
 
@@ -218,10 +218,10 @@ to_else g c =
     let assigned_x = c.in_ok-def_var.ensures in
     let arm = c.in_ok-seal_block-3.ensures in
     let made : Keeps c.ins-2.result.now c.builder-16-1.given.0 = valued refl c.in_ok-difference.ensures.built (c.builder-16-1.given.1 (sym c.ins-2.ensures.same)) in
-    carries_then (carries_kept (lent_on (and_then made (assigned assigned_x.call assigned_x.grows assigned_x.sealed assigned_x.variables)) c.ins-3.ensures.builder))
+    carries_then (carries_kept (lent_on (and_then made (assigned assigned_x.call assigned_x.goes_on.grows assigned_x.sealed assigned_x.variables)) c.ins-3.ensures.builder))
     (carries_then (carries_ended c.in_ok-jump.ensures.built (c.builder-19-1.given.1 (sym c.ins-3.ensures.same)))
     (carries_then (carries_moved c.in_ok-else_arm.else_arm c.switch_to_block-3.ensures.builder)
-    (carries_then (carries_called arm.call arm.grows arm.variables) (carries_kept (same c.ins-4.ensures.builder)))))
+    (carries_then (carries_called arm.call arm.goes_on.grows arm.leaves.variables) (carries_kept (same c.ins-4.ensures.builder)))))
 
 pub def_var-requires-2-clause-same_type : goal.def_var-requires-2-clause-same_type
 def_var-requires-2-clause-same_type g c =
@@ -262,10 +262,10 @@ use_var-requires-clause-declared g c =
     let at = goal.at.use_var-requires-clause-declared g c in
     let variables = λ (b : FunctionBuilder _). b.ctx.now.parts.variables in
     declared c.append_block_param-3.new.self.ctx.now.parts.variables c.in_ok-x.x (Lane I32) (typed g at.After-ins-2)
-    (c.in_ok-seal_block-4.ensures.variables ∙ ap variables c.switch_to_block-4.ensures.builder
+    (c.in_ok-seal_block-4.ensures.leaves.variables ∙ ap variables c.switch_to_block-4.ensures.builder
     ∙ ap variables (c.builder-26-1.given.1 (sym c.ins-5.ensures.same)) ∙ c.in_ok-jump-2.ensures.built.variables
     ∙ (else_kept g at.After-ins-5).variables ∙ ap variables (sym c.ins-4.ensures.builder) ∙ (carries_then (to_then g at.After-ins-2) (to_else g at.After-ins-4)).variables)
 
 pub return_-requires-clause-values_exist : goal.return_-requires-clause-values_exist
 return_-requires-clause-values_exist g c =
-    one_exists (subst (λ (b : FunctionBuilder _). c.in_ok-result.result < length b.func.now.values) (sym c.ins-6.ensures.builder) c.in_ok-result.ensures.exists)
+    one_exists (subst (λ (b : FunctionBuilder _). c.in_ok-result.result < length b.func.now.values) (sym c.ins-6.ensures.builder) c.in_ok-result.ensures.used.exists)

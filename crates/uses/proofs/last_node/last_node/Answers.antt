@@ -36,15 +36,15 @@ typed g c =
     let exit = c.in_ok-exit.ensures in
     let first = c.in_ok-first.ensures in
     let made : Keeps c.declare_var.new.self c.append_block_param.new.self =
-    and_then (marked c.in_ok-declare_var_needs_stack_map.ensures.marks) (and_then (created entry.call entry.grows entry.sealed entry.variables)
-    (and_then (created body.call body.grows body.sealed body.variables) (and_then (created exit.call exit.grows exit.sealed exit.variables)
-    (same_context first.call first.grows first.context)))) in
+    and_then (marked c.in_ok-declare_var_needs_stack_map.ensures.marks) (and_then (created entry.call entry.goes_on.grows entry.sealed entry.variables)
+    (and_then (created body.call body.goes_on.grows body.sealed body.variables) (and_then (created exit.call exit.goes_on.grows exit.sealed exit.variables)
+    (same_context first.call first.goes_on.grows first.context)))) in
     last_declared c.new-builder.result.ctx.now.parts.variables c.in_ok-node.node (Lane I64) node.number (made.variables ∙ ap (λ (d : ContextState). d.variables) node.variables)
 
 -- THE BLOCK `entry` -----------------------------------------------------------------------------------------------------
 
 entry_kept : (g : Over) (c : After-ins g) → Keeps c.seal_block.new.self c.ins.result.now
-entry_kept g c = let node = c.in_ok-def_var.ensures in lent_on (assigned node.call node.grows node.sealed node.variables) c.ins.ensures.builder
+entry_kept g c = let node = c.in_ok-def_var.ensures in lent_on (assigned node.call node.goes_on.grows node.sealed node.variables) c.ins.ensures.builder
 
 in_entry : (g : Over) (c : After-ins g) → c.ins.result.now.position ≡ Some c.in_ok-entry.entry
 in_entry g c = (entry_kept g c).position ∙ c.in_ok-seal_block.ensures.call.position ∙ ap (λ (b : FunctionBuilder _). b.position) c.switch_to_block.ensures.builder
@@ -54,14 +54,14 @@ open_in_entry : (g : Over) (c : After-ins g) (block : ℕ) → c.in_ok-entry.ent
 open_in_entry g c block above was =
     let first = c.in_ok-first.ensures in
     let sealed = c.in_ok-seal_block.ensures in
-    open_kept (entry_kept g c) (open_sealed c.in_ok-entry.entry sealed.call sealed.grows sealed.others (not_below above)
-    (open_moved c.in_ok-entry.entry c.switch_to_block.ensures.builder (open_kept (same_context first.call first.grows first.context) was)))
+    open_kept (entry_kept g c) (open_sealed c.in_ok-entry.entry sealed.call sealed.goes_on.grows sealed.seals.others (not_below above)
+    (open_moved c.in_ok-entry.entry c.switch_to_block.ensures.builder (open_kept (same_context first.call first.goes_on.grows first.context) was)))
 
 unfilled_in_entry : (g : Over) (c : After-ins g) (block : ℕ) → IsUnfilled c.create_block-3.new.self block → IsUnfilled c.ins.result.now block
 unfilled_in_entry g c block was =
     let first = c.in_ok-first.ensures in
     unfilled_kept (entry_kept g c) (unfilled_called c.in_ok-seal_block.ensures.call
-    (unfilled_moved c.in_ok-entry.entry c.switch_to_block.ensures.builder (unfilled_kept (same_context first.call first.grows first.context) was)))
+    (unfilled_moved c.in_ok-entry.entry c.switch_to_block.ensures.builder (unfilled_kept (same_context first.call first.goes_on.grows first.context) was)))
 
 -- the blocks are numbered in the order of their making
 entry_body : (g : Over) (c : After-ins g) → c.in_ok-entry.entry < c.in_ok-body.body
@@ -74,7 +74,7 @@ entry_exit : (g : Over) (c : After-ins g) → c.in_ok-entry.entry < c.in_ok-exit
 entry_exit g c = omega (arith, entry_body g c, body_exit g c)
 
 made_after_body : (g : Over) (c : After-ins g) → Keeps c.create_block-2.new.self c.create_block-3.new.self
-made_after_body g c = let exit = c.in_ok-exit.ensures in created exit.call exit.grows exit.sealed exit.variables
+made_after_body g c = let exit = c.in_ok-exit.ensures in created exit.call exit.goes_on.grows exit.sealed exit.variables
 
 body_open : (g : Over) (c : After-ins g) → IsOpen c.ins.result.now c.in_ok-body.body
 body_open g c =
@@ -112,8 +112,8 @@ body_kept : (g : Over) (c : After-ins-4 g) → Keeps c.switch_to_block-2.new.sel
 body_kept g c =
     let here = c.in_ok-here.ensures in
     let node = c.in_ok-def_var-2.ensures in
-    lent_on (and_then (called here.call here.grows here.seals here.variables) (and_then (loaded g c)
-    (assigned node.call node.grows node.sealed node.variables))) c.ins-4.ensures.builder
+    lent_on (and_then (called here.call here.goes_on.grows here.used.seals here.used.variables) (and_then (loaded g c)
+    (assigned node.call node.goes_on.grows node.sealed node.variables))) c.ins-4.ensures.builder
 
 in_body : (g : Over) (c : After-ins-4 g) → c.ins-4.result.now.position ≡ Some c.in_ok-body.body
 in_body g c = (body_kept g c).position ∙ ap (λ (b : FunctionBuilder _). b.position) c.switch_to_block-2.ensures.builder
@@ -143,7 +143,7 @@ pub seal_block-requires-3-clause-unsealed : goal.seal_block-requires-3-clause-un
 seal_block-requires-3-clause-unsealed g c =
     let at = goal.at.seal_block-requires-3-clause-unsealed g c in
     let sealed = c.in_ok-seal_block-2.ensures in
-    (open_sealed c.in_ok-body.body sealed.call sealed.grows sealed.others (not_below (body_exit g at.After-ins))
+    (open_sealed c.in_ok-body.body sealed.call sealed.goes_on.grows sealed.seals.others (not_below (body_exit g at.After-ins))
     (open_ended c.in_ok-brif.ensures.built (c.builder-21-1.given.1 (sym c.ins-4.ensures.same))
     (open_in_body g at.After-ins-4 c.in_ok-exit.exit (exit_open g at.After-ins)))).unsealed
 
@@ -167,16 +167,16 @@ to_body : (g : Over) (c : After-ins-2 g) → Keeps c.seal_block.new.self c.ins.r
 to_body g c entry =
     let sealed = c.in_ok-seal_block.ensures in
     let here = c.in_ok-here.ensures in
-    carries_then (carries_moved c.in_ok-entry.entry c.switch_to_block.ensures.builder) (carries_then (carries_called sealed.call sealed.grows sealed.variables)
+    carries_then (carries_moved c.in_ok-entry.entry c.switch_to_block.ensures.builder) (carries_then (carries_called sealed.call sealed.goes_on.grows sealed.leaves.variables)
     (carries_then (carries_kept entry) (carries_then (carries_ended c.in_ok-jump.ensures.built (c.builder-11-1.given.1 (sym c.ins.ensures.same)))
-    (carries_then (carries_moved c.in_ok-body.body c.switch_to_block-2.ensures.builder) (carries_kept (called here.call here.grows here.seals here.variables))))))
+    (carries_then (carries_moved c.in_ok-body.body c.switch_to_block-2.ensures.builder) (carries_kept (called here.call here.goes_on.grows here.used.seals here.used.variables))))))
 
 pub load-requires-clause-p_exists : goal.load-requires-clause-p_exists
 load-requires-clause-p_exists g c =
     let kept : Keeps c.use_var.new.self c.ins-3.result.now =
     lent_on (and_then (imported c.in_ok-visit.ensures.imports)
     (appended c.ins-2.ensures.builder c.in_ok-call.ensures.built refl (c.builder-16-1.given.1 (sym c.ins-2.ensures.same)))) c.ins-3.ensures.builder in
-    omega (arith, c.in_ok-here.ensures.exists, kept.grows.0)
+    omega (arith, c.in_ok-here.ensures.used.exists, kept.grows.0)
 
 pub def_var-requires-2-clause-same_type : goal.def_var-requires-2-clause-same_type
 def_var-requires-2-clause-same_type g c =
@@ -196,8 +196,8 @@ return_-requires-clause-values_exist g c =
     let body = c.in_ok-seal_block-2.ensures in
     let exit = c.in_ok-seal_block-3.ensures in
     let to_exit : Carries c.use_var.new.self c.ins-5.result.now =
-    carries_then (carries_kept (lent_on (and_then (loaded g at.After-ins-4) (assigned node.call node.grows node.sealed node.variables)) c.ins-4.ensures.builder))
+    carries_then (carries_kept (lent_on (and_then (loaded g at.After-ins-4) (assigned node.call node.goes_on.grows node.sealed node.variables)) c.ins-4.ensures.builder))
     (carries_then (carries_ended c.in_ok-brif.ensures.built (c.builder-21-1.given.1 (sym c.ins-4.ensures.same)))
-    (carries_then (carries_called body.call body.grows body.variables) (carries_then (carries_called exit.call exit.grows exit.variables)
+    (carries_then (carries_called body.call body.goes_on.grows body.leaves.variables) (carries_then (carries_called exit.call exit.goes_on.grows exit.leaves.variables)
     (carries_then (carries_moved c.in_ok-exit.exit c.switch_to_block-3.ensures.builder) (carries_kept (same c.ins-5.ensures.builder)))))) in
-    one_exists (omega (arith, c.in_ok-here.ensures.exists, to_exit.values))
+    one_exists (omega (arith, c.in_ok-here.ensures.used.exists, to_exit.values))

@@ -1,6 +1,6 @@
 -- The nodes of the search are emitted, unless the switch is refused before.
 use Rattle.std.proofs.Common.{arith, ◌≡◌, ℕ, pos, List, [], ◌∷◌, sym, ◌∙◌, ap, subst}
-use Rattle.std.specs.Prelude.{All, Contains}
+use Rattle.std.specs.Prelude.{All, Contains, Err}
 use Rattle.std.specs.List.{AllByRecursion}
 use Rattle.std.specs.FinMap as finite
 use Rattle.clif_types.specs.declared.types.«Type».{«Type»}
@@ -8,15 +8,16 @@ use Rattle.clif_types.specs.declared.types.«Type».TheVariants as type
 use Rattle.clif_inst_builder.specs.Shapes as shapes
 use Rattle.clif_ranges.specs.declared.ranges.CaseRange.{CaseRange}
 use Rattle.clif_ranges.specs.declared.search.Node.{Node}
-use Rattle.clif_ranges.specs.Search.{AreInOrder, AreSeparate, AreTestsOf, FindsCases}
+use Rattle.clif_ranges.specs.Search.{AreFew, AreInOrder, AreSeparate, AreTestsOf, FindsCases}
 use Rattle.clif_ir.specs.Body.{Body, value_at}
 use Rattle.clif_ranges.specs.Cases.{AreRangesFor, CaseMap, FitType, IsRefusal}
 use Rattle.clif_ranges.specs.declared.error.SwitchError.TheVariants.{TableTooLong as too_long}
 use Rattle.clif_ranges.specs.Ranges.{AreFewest, AreRangesOf}
+use Rattle.clif_builder.proofs.Adding.{refused_adds}
 use Rattle.clif_switch.specs.Emission.{HasItsBlock, MakesNodes, MayLead, cases_in}
 use Rattle.clif_switch.proofs.Values.{done}
 use Rattle.clif_switch.proofs.Cases.{all_blocks, all_cases, all_hold, blocks_of_cases, each_case, separate}
-use Rattle.clif_switch.proofs.Answered.{emitted, failed_by, key_too_wide, memory_not_wide, none_too_wide, refuses_of, table_too_long, was_failed}
+use Rattle.clif_switch.proofs.Answered.{emitted, failed_by, few_made, key_too_wide, memory_not_wide, none_too_wide, refuses_of, table_too_long, was_failed}
 use Rattle.clif_switch.proofs.Steps.{refused_steps}
 use Rattle.clif_switch.proofs.switch.Switch.emit.Goals as goal
 
@@ -52,6 +53,7 @@ returns-in-Err-Build g c =
     (λ max sound. memory_not_wide c.args.self _ c.in-Err-Build.field-0 c.in-Err-Build.field-0-0 c.in-Err-Build.field-0-is
     (refuses_of c.self.inside.cases c.args.self c.value_type-ty.result _ c.in-Err-Build.field-0 c.self.view_is read c.in-Err-Build.ensures.err c.in-Err-Build.ensures.too_wide) max)
     (refused_steps c.args.bx.now c.refuse.new.self (shapes.unary_imm (pos 0)) type.Invalid c.refuse.result (omega arith) (c.refuse.ensures.refused (shapes.unary_imm (pos 0)) type.Invalid))
+    (refused_adds c.args.bx.now c.refuse.new.self (shapes.unary_imm (pos 0)) type.Invalid _ c.refuse.result (c.refuse.ensures.refused (shapes.unary_imm (pos 0)) type.Invalid))
 
 pub search_tree-requires : goal.search_tree-requires
 search_tree-requires g c = subst AreSeparate (sym c.as_slice.ensures.value) (separate (finite.entries c.self.inside.cases) c.in-Ok.ranges.items c.in-Ok.ensures.ok.ranges_of)
@@ -63,6 +65,7 @@ returns-in_default g c =
     (λ max sound. none_too_wide c.args.self _ (said_of FitType c.self.inside.cases c.args.self c.value_type-ty.result _ c.self.view_is read c.in-Ok.ensures.ok.fit) max)
     (refused_steps c.args.bx.now c.refuse-in_default.new.self (shapes.unary_imm (pos 0)) type.Invalid c.refuse-in_default.result (omega arith)
     (c.refuse-in_default.ensures.refused (shapes.unary_imm (pos 0)) type.Invalid))
+    (refused_adds c.args.bx.now c.refuse-in_default.new.self (shapes.unary_imm (pos 0)) type.Invalid _ c.refuse-in_default.result (c.refuse-in_default.ensures.refused (shapes.unary_imm (pos 0)) type.Invalid))
 
 pub emit_nodes-requires-clause-leads : goal.emit_nodes-requires-clause-leads
 emit_nodes-requires-clause-leads g c =
@@ -93,12 +96,19 @@ returns-in-Ok-emit_nodes g c =
     c.args.self c.args.val c.args.otherwise c.args.bx.now c.emit_nodes.new.bx ranges nodes c.requires fits
     (subst AreFewest (sym c.as_slice.ensures.value) c.in-Ok.ensures.fewest) (subst (λ (list : List Node). FindsCases ranges list 0) same c.in-Ok-search_tree.ensures.ok)
     (subst (AreInOrder (0 ∷ []) 1) same c.in-Ok-search_tree.ensures.order) (subst (AreTestsOf ranges) same c.in-Ok-search_tree.ensures.tests)
-    c.in-Ok-emit_nodes.ensures.ends
+    (subst (AreFew ranges) same c.in-Ok-search_tree.ensures.few) c.in-Ok-emit_nodes.ensures.ends c.in-Ok-emit_nodes.ensures.most
     (subst (λ (t : «Type»). MakesNodes (record { ty = t; val = c.args.val; otherwise = c.args.otherwise }) nodes c.args.bx.now c.emit_nodes.new.bx done) of_type c.in-Ok-emit_nodes.ensures.made)
 
 pub returns : goal.returns
 returns g c =
+    let ranges : List CaseRange = c.as_slice.result.now in
+    let same : c.in-Ok-search_tree.nodes.items ≡ c.as_slice-2.result.now = sym c.as_slice-2.ensures.value in
+    let ty : «Type» = (value_at c.args.bx.now.func.now c.args.val).ty in
     let read = type_read c.args.bx.now.func.now c.func-2.result.now c.args.val c.value_type-ty.result c.value_type-ty.ensures c.func-2.ensures in
-    failed_by c.args.self c.args.val c.args.otherwise c.args.bx.now c.emit_nodes.new.bx c.in-Err.error
-    (λ max sound. none_too_wide c.args.self _ (said_of FitType c.self.inside.cases c.args.self c.value_type-ty.result _ c.self.view_is read c.in-Ok.ensures.ok.fit) max)
-    c.in-Err.ensures.ends.steps
+    let fits : AreRangesFor c.args.self ty ranges =
+    said_of (λ (m : CaseMap) (t : «Type»). AreRangesFor m t ranges) c.self.inside.cases c.args.self c.value_type-ty.result _ c.self.view_is read
+    (subst (AreRangesFor c.self.inside.cases c.value_type-ty.result) (sym c.as_slice.ensures.value) c.in-Ok.ensures.ok) in
+    failed_by c.args.self c.args.val c.args.otherwise c.args.bx.now c.emit_nodes.new.bx c.in-Err.error (λ max sound. none_too_wide c.args.self ty fits.fit max) c.in-Err.ensures.ends.steps
+    (few_made c.args.self c.args.val c.args.bx.now c.emit_nodes.new.bx ranges c.as_slice-2.result.now fits (subst (λ (list : List Node). FindsCases ranges list 0) same c.in-Ok-search_tree.ensures.ok)
+    (subst (AreInOrder (0 ∷ []) 1) same c.in-Ok-search_tree.ensures.order) (subst (AreTestsOf ranges) same c.in-Ok-search_tree.ensures.tests) (subst (AreFew ranges) same c.in-Ok-search_tree.ensures.few)
+    (Err c.in-Err.error) c.in-Err.ensures.most)
