@@ -1,9 +1,9 @@
 -- When a memory helper of a script may be made, and what is known once it was made or wasn't.
-use Rattle.std.proofs.Common.{◌≡◌, ◌<◌, ◌+◌, ◌-◌, ◌&&◌, ◌||◌, ℕ, ℤ, pos, suc, true, false, Bool, List, [], ◌∷◌, ◌++◌, length, map, refl, ap, sym, ◌∙◌, subst, arith, inr, append_assoc}
+use Rattle.std.proofs.Common.{◌≡◌, ◌<◌, ◌+◌, ◌-◌, ◌^◌, ◌&&◌, ◌||◌, ℕ, ℤ, pos, suc, true, false, Bool, List, [], ◌∷◌, ◌++◌, length, map, refl, ap, sym, ◌∙◌, subst, arith, inl, inr, append_assoc}
 use Rattle.std.specs.Prelude.{◌==◌, ◌/◌, min, nat_le, fold, if◌then◌else◌, is_some, slice_get, IsTrue, Option, Some, Result, Ok, Err}
 use Rattle.std.specs.List.{AllByRecursion, AllZip, list_all}
 use Rattle.std.proofs.lemmas.Bool.{false≢true, lt-ltb}
-use Rattle.std.proofs.lemmas.List.{append-nil, length-append}
+use Rattle.std.proofs.lemmas.List.{append-nil, length-append, length-map}
 use Rattle.clif_types.specs.Signature.{SignatureShape}
 use Rattle.clif_types.specs.declared.error.BuildError.{BuildError}
 use Rattle.clif_types.specs.declared.error.BuildError.TheVariants as build
@@ -25,6 +25,7 @@ use Rattle.clif_meaning.specs.Instruction.{Bytes, Call, Instruction, Operation}
 use Rattle.clif_meaning.specs.Ledger.{AValue, AnInstruction, Answered, Ledger, answers_to, has_value, ledger_with}
 use Rattle.clif_meaning.specs.Name as meaning
 use Rattle.clif_meaning.specs.Request.{AnsweredCall, GivenEntry, Imported, Request, Script, ServedBy, TriedBy, script_of}
+use Rattle.clif_meaning.specs.Sizes.{Table, Functions, Instructions, MakesAtMost, Signatures, Values, entries_in, made_by_script}
 use Rattle.clif_meaning.proofs.SameTypes.{type_is}
 use Rattle.clif_expansion.specs.Emission.{AreAnswered, AreGenerated, AreGiven, LastResults, building_with, given_to, importing}
 use Rattle.clif_expansion.specs.JoinedCalls.{IsImported}
@@ -32,6 +33,9 @@ use Rattle.clif_expansion.specs.ScriptCall.{Ask, call_allowed, emitted_types, is
 use Rattle.clif_helper_calls.specs.LibraryCodes.{i8, i32}
 use Rattle.clif_memory_helpers.specs.HelperLines.{HelpersAreLines, IsLineOf, emission_of, how_of, imports_for}
 use Rattle.clif_memory_helpers.specs.Helpers.{FillsWith, IsOperand, MayHelp, helper_calls, may_make, moved_by, operand_types}
+use Rattle.clif_memory_helpers.specs.Lines.{HelperIsFull}
+use Rattle.clif_memory_helpers.specs.Sizes.{helper_makes}
+use Rattle.clif_memory_helpers.proofs.HelperSizes.{helper_few}
 use Rattle.clif_builder.specs.declared.builder.FunctionBuilder.{FunctionBuilder}
 use Rattle.clif_builder.specs.Builder.{SameLoans}
 use Rattle.clif_builder.specs.Ledger.{NamesValue, ledger_of, tables_of_calls}
@@ -53,6 +57,7 @@ use Rattle.clif_resolution.proofs.Options.{get-below}
 use Rattle.clif_replay.specs.declared.make_memory.Operands.{Operands}
 use Rattle.clif_replay.specs.Emits.{AreOperands, CallsHelper, IsHelped, IsReadyBehindHelper, MakesMemory, MakesMoved, values_in}
 use Rattle.clif_replay.specs.Helpers.{IsSized, can_help, first_answer, helper_under, may_be_second, memory_under, moves_nothing, nothing_moved, operands_in, operation_in}
+use Rattle.clif_replay.specs.Limits.{MayFill, is_counted}
 use Rattle.clif_replay.specs.Ready.{IsAnswered, IsReady, IsReadyAfter, KeepsTables, no_answer}
 use Rattle.clif_replay.specs.Requests.{Naming}
 use Rattle.clif_replay.proofs.Conditions.{has-current, open-same, value-type-same, values-same}
@@ -274,6 +279,15 @@ module _ {R : Type 0} (config : TargetFrontendConfig) (called : MemoryCall) (b :
 
 -- WHAT IS KNOWN AFTERWARDS --------------------------------------------------------------------------------------------------
 
+-- which errors are `Full`
+misuse-full : {why : Condition} → ◌≡◌ {A = Result Answer CallError} (Err (error.Misuse why)) (Err error.Full) → ⊥
+misuse-full same = cc
+
+told-full : (e : BuildError) → ◌≡◌ {A = Result Answer CallError} (Err (call_error_of e)) (Err error.Full) → e ≡ build.Full
+told-full build.Memory same = let no_way : ⊥ = cc in absurd no_way
+told-full build.Full same = refl
+told-full build.Failed same = let no_way : ⊥ = cc in absurd no_way
+
 module _ (config : TargetFrontendConfig) (called : MemoryCall) where
   -- the condition of one that moves nothing, and of one that moves something
   nothing-judged : {R : Type 0} (b : FunctionBuilder R) (answers : List Answer) (allowed : Bool) → moves_nothing (operation_in called) ≡ true → HelperJudged config called b answers allowed
@@ -299,6 +313,7 @@ module _ (config : TargetFrontendConfig) (called : MemoryCall) where
       by : (none : Bool) → moves_nothing (operation_in called) ≡ none → MakesMoved none config called b b answers (Err (error.Misuse why))
       by true moves = made-misuse b answers (nothing-judged b answers false moves judges)
       by false moves = record {
+        full = λ told. absurd (misuse-full told);
         loans = loans-stay b;
         name = tt;
         ready = λ naming declared calls ready. tt;
@@ -309,7 +324,10 @@ module _ (config : TargetFrontendConfig) (called : MemoryCall) where
       }
 
   -- a call of the builder failed
-  module _ {R : Type 0} (old new : FunctionBuilder R) (answers : List Answer) (e : BuildError) (loans : SameLoans old new) (not-failed : e ≡ build.Failed → ⊥) (judges : HelperJudged config called old answers true) where
+  module _ {R : Type 0} (old new : FunctionBuilder R) (answers : List Answer) (e : BuildError) (loans : SameLoans old new) (not-failed : e ≡ build.Failed → ⊥)
+      (fills : e ≡ build.Full → MayFill (helper_makes config (operation_in called)) old.func.now)
+      (fills-nothing : moves_nothing (operation_in called) ≡ true → e ≡ build.Full → MayFill (λ table. 0) old.func.now)
+      (judges : HelperJudged config called old answers true) where
     pub helper-failed : MakesMemory config called old new answers (Err (call_error_of e))
     helper-failed = by (moves_nothing (operation_in called)) refl
       where
@@ -321,7 +339,7 @@ module _ (config : TargetFrontendConfig) (called : MemoryCall) where
           judged = λ naming declared calls ready. judged-from _ _ e (λ same. nothing-judged old answers true moves judges naming declared calls ready) not-failed;
           sound = tt;
           refused = λ why same. absurd (not-failed (told-refused e why same));
-          full = λ same. tt;
+          full = λ same. fills-nothing moves (told-full e same);
           variables = tt;
         }
         by false moves = record {
@@ -331,6 +349,7 @@ module _ (config : TargetFrontendConfig) (called : MemoryCall) where
           judged = λ naming declared calls ready. judged-from _ _ e (λ same. some-judged old answers true moves judges naming declared calls ready) not-failed;
           sound = tt;
           refused = λ why same. not-failed (told-refused e why same);
+          full = λ same. fills (told-full e same);
           variables = tt;
         }
 
@@ -358,6 +377,33 @@ pub record IsHelpMade {R : Type 0} (how : LastResults) (config : TargetFrontendC
   pub fills : FillsWith operation filling
   pub stands : (declared : SignatureShape) (calls : List AnsweredCall) (names : List meaning.Name) → StandsFor declared calls old → AllZip (NamesValue calls) names values
       → HelpStands how declared calls (helper_calls config operation filling old.func.now.tables (length calls) names) a new
+
+-- A helper was called, and a call of the builder failed. Where a table was full, the function has at most what its calls make more.
+pub record HelpFails {R : Type 0} (config : TargetFrontendConfig) (operation : ByteOperation) (values : List ℕ) (old new : FunctionBuilder R) (e : BuildError) : Type 0 where
+  pub loans : SameLoans old new
+  pub failed : e ≡ build.Failed → IsTrue old.failed
+  pub filling : ℤ
+  pub most : e ≡ build.Full → (names : List meaning.Name) → length names ≡ length values
+      → MakesAtMost (made_by_script (helper_calls config operation filling old.func.now.tables 0 names)) old.func.now new.func.now
+  pub full : e ≡ build.Full → HelperIsFull new
+
+-- a full table that a helper needs may be filled by what it makes at most
+fills-by : {R : Type 0} (most : Table → ℕ) (old new : FunctionBuilder R) → MakesAtMost most old.func.now new.func.now → HelperIsFull new → MayFill most old.func.now
+fills-by most old new few full = by full
+  where
+    at : (table : Table) → is_counted table ≡ true → entries_in new.func.now table ≡ 2 ^ 32 - 1 → MayFill most old.func.now
+    at table counted is = let more = few table in (table, counted, omega (arith, more, is))
+
+    by : HelperIsFull new → MayFill most old.func.now
+    by (inl (inl insts)) = at Instructions refl insts
+    by (inl (inr values)) = at Values refl values
+    by (inr (inl signatures)) = at Signatures refl signatures
+    by (inr (inr functions)) = at Functions refl functions
+
+full-no-memory : {A : Type 0} (other : BuildError) → other ≡ build.Full → ◌≡◌ {A = Result A BuildError} (Err other) (Err build.Memory) → ⊥
+full-no-memory build.Full is same = cc
+full-no-memory build.Memory is same = cc
+full-no-memory build.Failed is same = cc
 
 given-fills : (operation : ByteOperation) → how_of operation ≡ AreGiven → FillsWith operation (pos 0)
 given-fills (Copy copy) is = let no_way : ⊥ = cc in absurd no_way
@@ -400,14 +446,26 @@ module _ {R : Type 0} (config : TargetFrontendConfig) (operation : ByteOperation
       this = cc
   help-made AreGiven a so (Err e, is, answers) = let no_way : ⊥ = cc in absurd no_way
 
-  pub help-failed : (how : LastResults) (e : BuildError) → IsHelped how config operation values old new (Err e) → SameLoans old new × (e ≡ build.Failed → IsTrue old.failed)
+  pub help-failed : (how : LastResults) (e : BuildError) → IsHelped how config operation values old new (Err e) → HelpFails config operation values old new e
   help-failed AreGenerated e (Ok done, is, helps) = let no_way : ⊥ = cc in absurd no_way
-  help-failed AreGenerated e (Err other, is, helps) = (helps.made.line.call.loans, λ same. helps.made.line.call.failed.0 (ap Err (sym this ∙ same)))
+  help-failed AreGenerated e (Err other, is, helps) = record {
+    loans = helps.made.line.call.loans;
+    failed = λ same. helps.made.line.call.failed.0 (ap Err (sym this ∙ same));
+    filling = helps.filling;
+    most = λ same names long. helps.made.most 0 names long (full-no-memory other (sym this ∙ same));
+    full = λ same. helps.made.line.full (ap Err (sym this ∙ same));
+  }
     where
       this : e ≡ other
       this = cc
   help-failed AreGiven e (Ok value, is, answers) = let no_way : ⊥ = cc in absurd no_way
-  help-failed AreGiven e (Err other, is, answers) = (answers.made.line.call.loans, λ same. answers.made.line.call.failed.0 (ap Err (sym this ∙ same)))
+  help-failed AreGiven e (Err other, is, answers) = record {
+    loans = answers.made.line.call.loans;
+    failed = λ same. answers.made.line.call.failed.0 (ap Err (sym this ∙ same));
+    filling = pos 0;
+    most = λ same names long. answers.made.most 0 names long (full-no-memory other (sym this ∙ same));
+    full = λ same. answers.made.line.full (ap Err (sym this ∙ same));
+  }
     where
       this : e ≡ other
       this = cc
@@ -662,6 +720,7 @@ helper-made lines notes config called old new answers values found can sized a h
         subst (λ (x : Answer). IsReadyAfter naming declared calls (nothing_moved naming called) new answers x) (sym nothing)
         (note-ready notes calls old new answers true (map naming (operands_in called)) ready (nothing-added declared calls on.added new (on.asked ∙ none.0) on.stands) made.keeps))
     by false moves = record {
+      full = λ told. absurd (no-error error.Full told);
       loans = made.loans;
       name = made.name;
       ready = λ naming declared calls ready.
@@ -678,4 +737,20 @@ pub refused-by : {R : Type 0} (config : TargetFrontendConfig) (called : MemoryCa
     → CallsHelper config (operation_in called) (values_in called values) old new (Err e) → HelperJudged config called old answers true → MakesMemory config called old new answers (Err (call_error_of e))
 refused-by config called old new answers values e sound helped judges =
     let failed = help-failed config (operation_in called) (values_in called values) old new (how_of (operation_in called)) e helped in
-    helper-failed config called old new answers e failed.0 (λ same. false≢true (sym sound ∙ failed.1 same)) judges
+    let names : List meaning.Name = map (λ value. meaning.answer_of value 0) (values_in called values) in
+    let script : Script = helper_calls config (operation_in called) failed.filling old.func.now.tables 0 names in
+    let long : length names ≡ length (values_in called values) = length-map (values_in called values) (λ value. meaning.answer_of value 0) in
+    helper-failed config called old new answers e failed.loans (λ same. false≢true (sym sound ∙ failed.failed same))
+    (λ same.
+    fills-by (helper_makes config (operation_in called)) old new
+    (λ table.
+    let few = helper_few config (operation_in called) failed.filling old.func.now.tables 0 names table in
+    let more = failed.most same names long table in
+    omega (arith, few, more)) (failed.full same))
+    (λ moves same.
+    fills-by (λ table. 0) old new
+    (λ table.
+    let none : made_by_script script table ≡ 0 = ap (λ (s : Script). made_by_script s table) (no-calls config (operation_in called) failed.filling old.func.now.tables 0 names moves).0 in
+    let more = failed.most same names long table in
+    omega (arith, none, more)) (failed.full same))
+    judges

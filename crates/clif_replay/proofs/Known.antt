@@ -214,7 +214,7 @@ module _ (naming : Naming) (count : ℕ) (plain : Script) (script : List ScriptC
     ]
 
     module _ (may : allows plain_ledger asked ≡ true) where
-      is-read : IsReadRequest all asked request
+      pub is-read : IsReadRequest all asked request
       is-read = elim is-told [ inl read ↦ read | inr denied ↦ absurd (false≢true (sym denied.plain_denied ∙ may)) ]
 
       -- what is read behind it is an answer to it, or was read

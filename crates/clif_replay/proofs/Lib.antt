@@ -34,5 +34,8 @@ pub mod Switched
 pub mod HelperLines
 pub mod Helping
 pub mod Known
+pub mod LedgerSizes
+pub mod Summing
 pub mod Stepping
 pub mod EmissionExamples
+pub mod Filling

@@ -24,7 +24,7 @@ use Rattle.clif_resolution.specs.declared.answers.Answer.{Answer}
 use Rattle.clif_resolution.specs.declared.condition.Condition.{Condition}
 use Rattle.clif_resolution.specs.declared.answers.CallError.{CallError}
 use Rattle.clif_resolution.specs.declared.answers.CallError.TheVariants as error
-use Rattle.clif_replay.specs.Limits.{ConstructsUntil, UseMeetsFullTable}
+use Rattle.clif_replay.specs.Limits.{ConstructsUntil, IsWithin, UseMeetsFullTable}
 use Rattle.clif_resolution.specs.Answers.{Finds}
 use Rattle.clif_replay.specs.Makes.{Makes}
 use Rattle.clif_replay.specs.Ready.{IsJudged, IsReady, IsReadyAfter}
@@ -264,16 +264,21 @@ constructs-inserted f g block = by (stands_in block f.layout)
 -- a use of a variable did, in the current block
 constructs-met : {T : Type 0} {R : Type 0} (TableIsFull : Body → Type 0) (b : FunctionBuilder R) (g : Body) (told : Result T BuildError) → HasCurrent b
     → IfSome b.position (λ block. told ≡ Err build.Full → OnlyConstructs (inserted_in b.func.now block) g) → told ≡ Err build.Full → TableIsFull g
-    → ConstructsUntil TableIsFull b.func.now
-constructs-met TableIsFull b g told current made full is_full =
-    (g, constructs-inserted b.func.now g current.0 (subst (λ (o : Option ℕ). IfSome o (λ block. told ≡ Err build.Full → OnlyConstructs (inserted_in b.func.now block) g)) current.1 made full), is_full)
+    → IsWithin b.func.now b.ctx.now.parts b.position g → ConstructsUntil TableIsFull b.func.now b.ctx.now.parts b.position
+constructs-met TableIsFull b g told current made full is_full within = (
+  g,
+  constructs-inserted b.func.now g current.0 (subst (λ (o : Option ℕ). IfSome o (λ block. told ≡ Err build.Full → OnlyConstructs (inserted_in b.func.now block) g)) current.1 made full),
+  is_full,
+  within,
+)
 
 pub use-met : {T : Type 0} {R : Type 0} (b : FunctionBuilder R) (g : Body) (told : Result T BuildError) (variable : ℕ) → variable < length b.ctx.now.parts.variables → HasCurrent b
     → IfSome b.position (λ block. told ≡ Err build.Full → OnlyConstructs (inserted_in b.func.now block) g) → told ≡ Err build.Full
-    → ((ty : «Type») → slice_get b.ctx.now.parts.variables variable ≡ Some ty → told ≡ Err build.Full → UseIsFull ty g) → UseMeetsFullTable variable b.func.now b.ctx.now.parts
-use-met b g told variable declared current made full is_full =
+    → ((ty : «Type») → slice_get b.ctx.now.parts.variables variable ≡ Some ty → told ≡ Err build.Full → UseIsFull ty g)
+    → IsWithin b.func.now b.ctx.now.parts b.position g → UseMeetsFullTable variable b.func.now b.ctx.now.parts b.position
+use-met b g told variable declared current made full is_full within =
     let at = get-below b.ctx.now.parts.variables variable declared in
-    (at.0, at.1, constructs-met (UseIsFull at.0) b g told current made full (is_full at.0 at.1 full))
+    (at.0, at.1, constructs-met (UseIsFull at.0) b g told current made full (is_full at.0 at.1 full) within)
 
 -- the parameters that wait in one block wait in some block
 pub one-block : (f g : Body) (s : SsaState) (b : ℕ) → b < length f.blocks → SealingIsFull (Contains (types_of f (pending_of (sealed_of s b)))) g

@@ -1,6 +1,6 @@
 -- One step of a replay: a call of the list is made, and the builder that stood for the plain calls of the script's calls stands for
 -- those of one call more.
-use Rattle.std.proofs.Common.{◌≡◌, ◌<◌, inl, ℕ, suc, ◌+◌, List, [], ◌∷◌, ◌++◌, length, ap, arith, refl, sym, ◌∙◌, subst}
+use Rattle.std.proofs.Common.{◌≡◌, ◌<◌, ◌≤◌, inl, ℕ, suc, ◌+◌, List, [], ◌∷◌, ◌++◌, length, ap, arith, refl, sym, ◌∙◌, subst}
 use Rattle.std.specs.Prelude.{◌&&◌, ◌||◌, if◌then◌else◌, Bool, true, false, Option, Some, None, is_some, option_map, map, slice_get, Result, Ok, Err, OnOk, IfOk}
 use Rattle.std.specs.List.{list_any}
 use Rattle.std.specs.Global.{Vec}
@@ -13,6 +13,12 @@ use Rattle.clif_meaning.specs.Ledger.{Ledger, empty_ledger, ledger_after}
 use Rattle.clif_meaning.specs.Name as named
 use Rattle.clif_meaning.specs.Name.{answer_of, same_name}
 use Rattle.clif_meaning.specs.Request.{AnsweredCall, Request, Script, script_of}
+use Rattle.clif_meaning.specs.Instruction.{Compute, Instruction, Operation, Switch}
+use Rattle.clif_meaning.specs.Sizes.{Table, made_by_script}
+use Rattle.clif_ir.specs.Body.{Body}
+use Rattle.clif_switch_calls.specs.SwitchSizes.{switch_makes}
+use Rattle.clif_builder.specs.Context.{ContextState}
+use Rattle.clif_memory_helpers.proofs.HelperSizes.{helper_few}
 use Rattle.clif_simulation.proofs.LedgerValues.{as_many}
 use Rattle.clif_builder.specs.declared.builder.FunctionBuilder.{FunctionBuilder}
 use Rattle.clif_builder.specs.Builder.{SameLoans}
@@ -28,6 +34,7 @@ use Rattle.clif_calls.specs.declared.call.Call.{Call}
 use Rattle.clif_calls.specs.declared.call.Call.TheVariants as call
 use Rattle.clif_calls.specs.declared.call.Name.{Name}
 use Rattle.clif_calls.specs.declared.immediate.ImmediateCall.{ImmediateCall}
+use Rattle.clif_calls.specs.declared.immediate.ImmediateCall.TheVariants as immediate
 use Rattle.clif_calls.specs.declared.memory.MemoryCall.{MemoryCall}
 use Rattle.clif_calls.specs.declared.switch.SwitchEntry.{SwitchEntry}
 use Rattle.clif_memory_helpers.specs.Helpers.{helper_calls}
@@ -41,18 +48,32 @@ use Rattle.clif_resolution.specs.declared.answers.CallError.TheVariants as error
 use Rattle.clif_replay.specs.Cases.{switch_under}
 use Rattle.clif_replay.specs.Emits.{IsSwitchJudged, MakesEmission, MakesHelper, MakesMoved, MakesScriptCall, MakesSwitch, plain_calls_under}
 use Rattle.clif_replay.specs.Helpers.{helper_under, moves_nothing, nothing_moved, operands_in, operation_in}
-use Rattle.clif_resolution.specs.Entries.{numbers_at}
+use Rattle.clif_resolution.specs.Entries.{Numbers, numbers_at}
 use Rattle.clif_replay.specs.Entries.{numbers_in}
-use Rattle.clif_replay.specs.Limits.{MeetsFullTable}
+use Rattle.clif_replay.specs.Limits.{MeetsFullTable, StopsAtFullTable}
+use Rattle.clif_replay.specs.Sums.{call_makes, calls_make, emitted}
 use Rattle.clif_replay.specs.Makes.{MakesCall}
 use Rattle.clif_replay.specs.Ready.{IsCallJudged, IsJudged, IsReady, types_after}
-use Rattle.clif_replay.specs.Requests.{Naming, call_of, emission_under, is_refusable, is_tried, name_of, request_of, request_under}
+use Rattle.clif_replay.specs.Requests.{Naming, call_of, emission_under, emitted_in, is_refusable, is_tried, name_of, request_of, request_under}
 use Rattle.clif_replay.proofs.Numbers.{numbers-same}
-use Rattle.clif_replay.proofs.Known.{numbers-known, AreKnown, allowed-same, blamed-same, emitted-same, helper-same, known-asked, known-emitted, known-helped, known-switched, switch-refused, switch-same}
+use Rattle.clif_replay.proofs.Known.{numbers-known, AreKnown, allowed-same, blamed-same, emitted-same, helper-same, is-read, known-asked, known-emitted, known-helped, known-switched, switch-refused, switch-same}
 use Rattle.clif_replay.proofs.Nowhere.{AreAnswered}
 use Rattle.clif_replay.proofs.ReadyLaws.{read}
+use Rattle.clif_replay.proofs.Summing.{constants-few, made-append, made_read, make-append}
 
--- The builder stands for plain calls of these calls of the script, which are taken, and gave these answers.
+-- plain calls make at most what is counted for the calls of the script
+abbrev pub AreCounted : TargetFrontendConfig → Script → List ScriptCall → Type 0
+AreCounted config plain script = (table : Table) → made_by_script plain table ≤ calls_make config script table
+
+-- calls more on both sides are counted as well
+counted-on : (config : TargetFrontendConfig) (plain added : Script) (script : List ScriptCall) (call : ScriptCall) → AreCounted config plain script
+    → ((table : Table) → made_by_script added table ≤ call_makes config call table) → AreCounted config (plain ++ added) (script ++ call ∷ [])
+counted-on config plain added script call before few table =
+    let made = made-append plain added table in
+    let makes = make-append config script call table in
+    omega (arith, before table, few table, made, makes)
+
+-- The builder stands for plain calls of these calls of the script, which are taken, gave these answers, and make at most what is counted.
 pub record IsInStep {R : Type 0} (config : TargetFrontendConfig) (declared : SignatureShape) (script : List ScriptCall) (b : FunctionBuilder R) (answers : List Answer) : Type 0 where
   pub naming : Naming
   pub made : List AnsweredCall
@@ -60,6 +81,7 @@ pub record IsInStep {R : Type 0} (config : TargetFrontendConfig) (declared : Sig
   pub known : AreKnown naming (length answers) (script_of made) script
   pub taken : AreCallsTaken empty_ledger script
   pub counts : length (ledger_of script).answers ≡ length answers
+  pub sizes : AreCounted config (script_of made) script
 
 -- The call may be made at this ledger and isn't refused, or it is known why it wasn't made.
 abbrev pub IsJudgedOn : Ledger → ScriptCall → (tried : Bool) → Result Answer CallError → Type 0
@@ -76,7 +98,7 @@ pub record IsStep {R : Type 0} (config : TargetFrontendConfig) (c : Call) (old n
   pub name : OnOk result (new.func.now.name ≡ old.func.now.name)
   pub sound : OnOk result (new.failed ≡ false)
   pub refused : (why : Condition) → result ≡ Err (error.Refused why) → is_refusable c ≡ true
-  pub full : result ≡ Err error.Full → MeetsFullTable (numbers_at old.func.now answers) c old.func.now old.ctx.now.parts
+  pub full : result ≡ Err error.Full → StopsAtFullTable config (numbers_at old.func.now answers) c old.func.now old.ctx.now.parts old.position
   pub variables : OnOk result (new.ctx.now.parts.variables ≡ types_after c old.ctx.now.parts.variables)
 
 -- how many answers there are behind one call more
@@ -162,6 +184,7 @@ record Asks (R : Type 0) (config : TargetFrontendConfig) (c : Call) : Type 0 whe
   call : (declared : SignatureShape) (ledger : Ledger) → call_of config declared ledger c ≡ Ask (request_of declared ledger c)
   makes : (old new : FunctionBuilder R) (answers : List Answer) (result : Result Answer CallError) → MakesScriptCall config c old new answers result → MakesCall c old new answers result
   refused_never : (declared : SignatureShape) (ledger : Ledger) → refusal_of ledger (request_of declared ledger c) ≡ None
+  stops : (numbers : Numbers) (f : Body) (context : ContextState) (position : Option ℕ) → MeetsFullTable numbers c f context position → StopsAtFullTable config numbers c f context position
 
 module _ {R : Type 0} (config : TargetFrontendConfig) (c : Call) (asks : Asks R config c) (old new : FunctionBuilder R) (answers : List Answer) where
   ask-judged : (result : Result Answer CallError) → MakesCall c old new answers result → (declared : SignatureShape) (script : List ScriptCall) → IsInStep config declared script old answers
@@ -202,6 +225,12 @@ module _ {R : Type 0} (config : TargetFrontendConfig) (c : Call) (asks : Asks R 
         taken = one_more empty_ledger script (Ask request) s.taken may
             (ap (λ (refusal : Option Refusal). is_some (option_map OfCall refusal)) (asks.refused_never declared (ledger_of script)));
         counts = one-answer-more script (Ask request) answers answer s.counts;
+        sizes =
+            subst (λ (plain : Script). AreCounted config plain (script ++ Ask request ∷ [])) (sym (map_push (λ (a : AnsweredCall). a.request) s.made more))
+            (counted-on config (script_of s.made) (asked ∷ []) script (Ask request) s.sizes
+            (λ table.
+            let same = made_read _ asked request (is-read s.naming (length answers) (script_of s.made) script s.known s.counts later answered declared c judged) table in
+            omega (arith, same)));
       })
 
   ask-step : (result : Result Answer CallError) → MakesCall c old new answers result → IsStep config c old new answers result
@@ -212,9 +241,19 @@ module _ {R : Type 0} (config : TargetFrontendConfig) (c : Call) (asks : Asks R 
     name = makes.name;
     sound = makes.sound;
     refused = λ why is. tried-refusable c (makes.refused why is);
-    full = makes.full;
+    full = λ is. asks.stops (numbers_at old.func.now answers) old.func.now old.ctx.now.parts old.position (makes.full is);
     variables = makes.variables;
   }
+
+-- the calls of a constant and of what it is an operand of make few entries
+emission-few : (config : TargetFrontendConfig) (called : ImmediateCall) (naming : Naming) (ledger : Ledger) (place : ℕ) (emission : Instruction named.Name named.Name)
+    → emission.operation ≡ Compute (emitted_in called) → (table : Table) → made_by_script (plain_calls_under naming ledger place called) table ≤ call_makes config (Emit [] emission) table
+emission-few config (immediate.IaddImmS x imm) naming ledger place emission is table =
+    subst (λ (operation : Operation). made_by_script (plain_calls_under naming ledger place (immediate.IaddImmS x imm)) table ≤ emitted config operation table) (sym is)
+    (constants-few _ _ _ place (naming x) refl refl table)
+emission-few config (immediate.IcmpImmS cond x imm) naming ledger place emission is table =
+    subst (λ (operation : Operation). made_by_script (plain_calls_under naming ledger place (immediate.IcmpImmS cond x imm)) table ≤ emitted config operation table) (sym is)
+    (constants-few _ _ _ place (naming x) refl refl table)
 
 -- EMITTING ----------------------------------------------------------------------------------------------------------------
 
@@ -252,6 +291,11 @@ module _ {R : Type 0} (config : TargetFrontendConfig) (called : ImmediateCall) (
             behind.extended behind.last (omega (arith, counted, long, both, at_end)) behind.earlier behind.results));
         taken = one_more empty_ledger script (Emit [] emission) s.taken may refl;
         counts = one-answer-more script (Emit [] emission) answers answer s.counts;
+        sizes =
+            subst (λ (plain : Script). AreCounted config plain (script ++ Emit [] emission ∷ [])) (sym (map-append (λ (a : AnsweredCall). a.request) s.made behind.added))
+            (counted-on config (script_of s.made) (script_of behind.added) script (Emit [] emission) s.sizes
+            (subst (λ (plain : Script). (table : Table) → made_by_script plain table ≤ call_makes config (Emit [] emission) table) (sym behind.asked)
+            (emission-few config called s.naming (ledger_after (script_of s.made)) (length s.made) emission refl)));
       }
 
   emission-step : (result : Result Answer CallError) → MakesEmission called old new answers result → IsStep config (call.Immediate called) old new answers result
@@ -267,6 +311,11 @@ module _ {R : Type 0} (config : TargetFrontendConfig) (called : ImmediateCall) (
   }
 
 -- SWITCHING ---------------------------------------------------------------------------------------------------------------
+
+-- how many keys a switch has
+abbrev keys-in : Operation → ℕ
+keys-in (Switch keys) = length keys
+keys-in _ = 0
 
 begins-some : (more : Script) → BeginsHere more → 0 < length more
 begins-some [] begins = absurd begins
@@ -315,6 +364,11 @@ module _ {R : Type 0} (config : TargetFrontendConfig) (entries : Vec SwitchEntry
             (begins-some (script_of behind.added) behind.code.begins) behind.earlier behind.behind));
         taken = one_more empty_ledger script (Emit [] switch) s.taken may.0 may.1;
         counts = one-answer-more script (Emit [] switch) answers answer s.counts;
+        sizes =
+            subst (λ (plain : Script). AreCounted config plain (script ++ Emit [] switch ∷ [])) (sym whole)
+            (counted-on config (script_of s.made) (script_of behind.added) script (Emit [] switch) s.sizes
+            (subst (λ (count : ℕ). (table : Table) → made_by_script (script_of behind.added) table ≤ switch_makes count table)
+            (sym (ap (λ (i : Instruction named.Name named.Name). keys-in i.operation) behind.is)) behind.most));
       }
 
   switch-step : (result : Result Answer CallError) → MakesSwitch entries.items value otherwise old new answers result → IsStep config (call.Switch entries value otherwise) old new answers result
@@ -325,7 +379,7 @@ module _ {R : Type 0} (config : TargetFrontendConfig) (entries : Vec SwitchEntry
     name = makes.name;
     sound = makes.sound;
     refused = λ why is. refl;
-    full = λ is. tt;
+    full = makes.full;
     variables = makes.variables;
   }
 
@@ -369,6 +423,11 @@ module _ {R : Type 0} (config : TargetFrontendConfig) (called : MemoryCall) (mov
             behind.earlier behind.results));
         taken = one_more empty_ledger script this s.taken may refl;
         counts = one-answer-more script this answers answer s.counts;
+        sizes =
+            subst (λ (plain : Script). AreCounted config plain (script ++ this ∷ [])) (sym whole)
+            (counted-on config (script_of s.made) (script_of behind.added) script this s.sizes
+            (subst (λ (plain : Script). (table : Table) → made_by_script plain table ≤ call_makes config this table) (sym behind.asked)
+            (helper_few config (operation_in called) behind.filling (ledger_after (script_of s.made)).tables (length s.made) (map s.naming (operands_in called)))));
       }
 
   helper-is : (declared : SignatureShape) (ledger : Ledger) → call_of config declared ledger (call.Memory called) ≡ helper_under config name_of ledger called
@@ -386,7 +445,7 @@ module _ {R : Type 0} (config : TargetFrontendConfig) (called : MemoryCall) (mov
     name = makes.name;
     sound = makes.sound;
     refused = λ why is. absurd (makes.refused why is);
-    full = λ is. tt;
+    full = makes.full;
     variables = makes.variables;
   }
 
@@ -397,6 +456,7 @@ nothing-asks R config called moves = record {
   makes = λ old new answers result is.
       subst (λ (none : Bool). MakesMoved none config called old new answers result) moves is;
   refused_never = λ declared ledger. refl;
+  stops = λ numbers f context position fills. (fills.0, fills.1, let more = fills.2 in omega (arith, more));
 }
 
 -- each call is one of these
@@ -414,14 +474,14 @@ kind R config (call.Memory called) = by (moves_nothing (operation_in called)) re
     by : (none : Bool) → moves_nothing (operation_in called) ≡ none → Kind R config (call.Memory called)
     by true is = AsksOnly (call.Memory called) (nothing-asks R config called is)
     by false is = Helps called is
-kind R config (call.Straight lender (straight.Outside (outside.Call function args))) = AsksOnly _ (record { call = λ declared ledger. refl; makes = λ old new answers result is. is; refused_never = λ declared ledger. refl })
-kind R config (call.Straight lender (straight.Outside (outside.CallIndirect signature callee args))) = AsksOnly _ (record { call = λ declared ledger. refl; makes = λ old new answers result is. is; refused_never = λ declared ledger. refl })
-kind R config (call.Straight lender (straight.Plain instruction)) = AsksOnly _ (record { call = λ declared ledger. refl; makes = λ old new answers result is. is; refused_never = λ declared ledger. refl })
-kind R config (call.Straight lender (straight.F128const bytes)) = AsksOnly _ (record { call = λ declared ledger. refl; makes = λ old new answers result is. is; refused_never = λ declared ledger. refl })
-kind R config (call.Straight lender (straight.Vconst ty bytes)) = AsksOnly _ (record { call = λ declared ledger. refl; makes = λ old new answers result is. is; refused_never = λ declared ledger. refl })
-kind R config (call.Throwing (throwing.TryCall function args table)) = AsksOnly _ (record { call = λ declared ledger. refl; makes = λ old new answers result is. is; refused_never = λ declared ledger. refl })
-kind R config (call.Throwing (throwing.TryCallIndirect callee args table)) = AsksOnly _ (record { call = λ declared ledger. refl; makes = λ old new answers result is. is; refused_never = λ declared ledger. refl })
-kind R config _ = AsksOnly _ (record { call = λ declared ledger. refl; makes = λ old new answers result is. is; refused_never = λ declared ledger. refl })
+kind R config (call.Straight lender (straight.Outside (outside.Call function args))) = AsksOnly _ (record { call = λ declared ledger. refl; makes = λ old new answers result is. is; refused_never = λ declared ledger. refl; stops = λ numbers f context position meets. meets })
+kind R config (call.Straight lender (straight.Outside (outside.CallIndirect signature callee args))) = AsksOnly _ (record { call = λ declared ledger. refl; makes = λ old new answers result is. is; refused_never = λ declared ledger. refl; stops = λ numbers f context position meets. meets })
+kind R config (call.Straight lender (straight.Plain instruction)) = AsksOnly _ (record { call = λ declared ledger. refl; makes = λ old new answers result is. is; refused_never = λ declared ledger. refl; stops = λ numbers f context position meets. meets })
+kind R config (call.Straight lender (straight.F128const bytes)) = AsksOnly _ (record { call = λ declared ledger. refl; makes = λ old new answers result is. is; refused_never = λ declared ledger. refl; stops = λ numbers f context position meets. meets })
+kind R config (call.Straight lender (straight.Vconst ty bytes)) = AsksOnly _ (record { call = λ declared ledger. refl; makes = λ old new answers result is. is; refused_never = λ declared ledger. refl; stops = λ numbers f context position meets. meets })
+kind R config (call.Throwing (throwing.TryCall function args table)) = AsksOnly _ (record { call = λ declared ledger. refl; makes = λ old new answers result is. is; refused_never = λ declared ledger. refl; stops = λ numbers f context position meets. meets })
+kind R config (call.Throwing (throwing.TryCallIndirect callee args table)) = AsksOnly _ (record { call = λ declared ledger. refl; makes = λ old new answers result is. is; refused_never = λ declared ledger. refl; stops = λ numbers f context position meets. meets })
+kind R config _ = AsksOnly _ (record { call = λ declared ledger. refl; makes = λ old new answers result is. is; refused_never = λ declared ledger. refl; stops = λ numbers f context position meets. meets })
 
 pub step : {R : Type 0} (config : TargetFrontendConfig) (c : Call) (old new : FunctionBuilder R) (answers : List Answer) (result : Result Answer CallError) → MakesScriptCall config c old new answers result
     → IsStep config c old new answers result

@@ -21,7 +21,7 @@ use Rattle.clif_ir.specs.Body.{value_at}
 use Rattle.clif_ranges.specs.declared.ranges.CaseRange.{CaseRange}
 use Rattle.clif_ranges.specs.declared.error.SwitchError.{SwitchError}
 use Rattle.clif_ranges.specs.declared.error.SwitchError.TheVariants as switch_error
-use Rattle.clif_ranges.specs.Cases.{AreRangesFor, IsRefusal}
+use Rattle.clif_ranges.specs.Cases.{CaseMap, AreRangesFor, IsRefusal}
 use Rattle.clif_records.specs.Tables.{is_yes}
 use Rattle.clif_ssa.specs.Ssa.{sealed_of}
 use Rattle.clif_meaning.specs.Acceptance as acceptance
@@ -53,7 +53,11 @@ use Rattle.clif_instructions.specs.declared.block_call.BlockCall.{BlockCall}
 use Rattle.clif_switch_calls.specs.SwitchCalls.{Switched, bare_edge}
 use Rattle.clif_switch_calls.specs.SwitchLaw.{RefusalsAreOfKeys, case_edges, case_keys, refusal_in}
 use Rattle.clif_switch.specs.Emission.{MayLead}
+use Rattle.clif_switch.specs.Emission.{SwitchIsFull}
 use Rattle.clif_switch.specs.Switches.{Emits, IsCodeOf, MayEmit, NamesSwitch}
+use Rattle.clif_switch_calls.specs.SwitchSizes.{switch_makes}
+use Rattle.clif_meaning.specs.Sizes.{Table, Blocks, Instructions, JumpTables, MakesAtMost, Values, entries_in}
+use Rattle.clif_replay.specs.Limits.{MayFill, is_counted}
 use Rattle.clif_replay.specs.Cases.{are_targets, are_twice, can_switch_on, cases_at, cases_of, edges_to, keys_of, number_at, set_entries, switch_told, switch_under}
 use Rattle.clif_replay.specs.Emits.{IsReadyBehindSwitch, MakesSwitch}
 use Rattle.clif_replay.specs.Ready.{IsAnswered, IsReady, TablesAgree}
@@ -329,10 +333,14 @@ no-failure x y apart same = apart (told x y same)
     told : (a c : CallError) → ◌≡◌ {A = Result Answer CallError} (Err a) (Err c) → a ≡ c
     told a c h = cc
 
+no-full : {a : Answer} → ◌≡◌ {A = Result Answer CallError} (Ok a) (Err error.Full) → ⊥
+no-full same = cc
+
 -- it may not be made
 pub switch-misused : {R : Type 0} {why : Condition} (entries : List SwitchEntry) (value otherwise : Name) (b : FunctionBuilder R) (answers : List Answer) → SwitchJudged entries value otherwise b answers false
     → MakesSwitch entries value otherwise b b answers (Err (error.Misuse why))
-switch-misused entries value otherwise b answers judges = record {
+switch-misused {why = why} entries value otherwise b answers judges = record {
+  full = λ told. absurd (no-failure (error.Misuse why) error.Full (λ same. cc) told);
   loans = loans-stay b;
   name = tt;
   ready = λ naming declared calls ready. tt;
@@ -346,6 +354,7 @@ pub switch-unset : {R : Type 0} (entries : List SwitchEntry) (value otherwise : 
     → SwitchJudged entries value otherwise b answers true → ((why : Condition) × (e ≡ error.Refused why) × (are_twice entries ≡ true)) ⊎ (e ≡ error.Memory)
     → MakesSwitch entries value otherwise b b answers (Err e)
 switch-unset entries value otherwise b answers e judges (inr memory) = subst (λ (x : CallError). MakesSwitch entries value otherwise b b answers (Err x)) (sym memory) (record {
+  full = λ told. absurd (no-failure error.Memory error.Full (λ same. cc) told);
   loans = loans-stay b;
   name = tt;
   ready = λ naming declared calls ready. tt;
@@ -354,6 +363,7 @@ switch-unset entries value otherwise b answers e judges (inr memory) = subst (λ
   variables = tt;
 })
 switch-unset entries value otherwise b answers e judges (inl (why, refused, twice)) = subst (λ (x : CallError). MakesSwitch entries value otherwise b b answers (Err x)) (sym refused) (record {
+  full = λ told. absurd (no-failure (error.Refused why) error.Full (λ same. cc) told);
   loans = loans-stay b;
   name = tt;
   ready = λ naming declared calls ready. tt;
@@ -362,11 +372,29 @@ switch-unset entries value otherwise b answers e judges (inl (why, refused, twic
   variables = tt;
 })
 
+-- a table that it fills has what it had, and at most what its keys take
+switch-fills : {R : Type 0} {keys : List ℕ} {cases : CaseMap} {val other : ℕ} {old new : FunctionBuilder R} → keys ≡ case_keys cases
+    → Emits cases val other old new (Err (switch_error.Build build.Full)) → MayFill (switch_makes (length keys)) old.func.now
+switch-fills {keys} {cases} {old = old} {new = new} same emits = by (emits.full refl)
+  where
+    most : MakesAtMost (switch_makes (length keys)) old.func.now new.func.now
+    most = subst (λ (ks : List ℕ). MakesAtMost (switch_makes (length ks)) old.func.now new.func.now) (sym same) (emits.most (λ memory. cc))
+
+    full : (table : Table) → is_counted table ≡ true → entries_in new.func.now table ≡ 2 ^ 32 - 1 → MayFill (switch_makes (length keys)) old.func.now
+    full table counted is = let few = most table in (table, counted, omega (arith, few, is))
+
+    by : SwitchIsFull new.func.now → MayFill (switch_makes (length keys)) old.func.now
+    by (inl (inl values)) = full Values refl values
+    by (inl (inr insts)) = full Instructions refl insts
+    by (inr (inl blocks)) = full Blocks refl blocks
+    by (inr (inr tables)) = full JumpTables refl tables
+
 -- it isn't emitted: for its keys, or since a call of the builder failed
 module _ {R : Type 0} (law : RefusalsAreOfKeys) (entries : List SwitchEntry) (value otherwise : Name) (old new : FunctionBuilder R) (answers : List Answer) (val other : ℕ)
     (found : value_of old.func.now answers value ≡ Some val) (once : are_twice entries ≡ false) (sound : old.failed ≡ false) (judges : SwitchJudged entries value otherwise old answers true) where
   failed-by : (e : BuildError) → Emits (cases_at answers entries) val other old new (Err (switch_error.Build e)) → MakesSwitch entries value otherwise old new answers (Err (call_error_of e))
   failed-by build.Memory emits = record {
+    full = λ told. absurd (no-failure error.Memory error.Full (λ same. cc) told);
     loans = emits.loans;
     name = tt;
     ready = λ naming declared calls ready. tt;
@@ -375,6 +403,7 @@ module _ {R : Type 0} (law : RefusalsAreOfKeys) (entries : List SwitchEntry) (va
     variables = tt;
   }
   failed-by build.Full emits = record {
+    full = λ told. switch-fills (keys-are entries answers once) emits;
     loans = emits.loans;
     name = tt;
     ready = λ naming declared calls ready. tt;
@@ -388,7 +417,8 @@ module _ {R : Type 0} (law : RefusalsAreOfKeys) (entries : List SwitchEntry) (va
 
   refused-by : {why : Condition} (e : SwitchError) → IsRefusal (cases_at answers entries) (value_at old.func.now val).ty e → is_some (refusal_in e) ≡ true → Emits (cases_at answers entries) val other old new (Err e)
       → MakesSwitch entries value otherwise old new answers (Err (error.Refused why))
-  refused-by e is told emits = record {
+  refused-by {why = why} e is told emits = record {
+    full = λ same. absurd (no-failure (error.Refused why) error.Full (λ no. cc) same);
     loans = emits.loans;
     name = tt;
     ready = λ naming declared calls ready. tt;
@@ -570,6 +600,7 @@ module _ {R : Type 0} (law : RefusalsAreOfKeys) (entries : List SwitchEntry) (va
       is = switch-is;
       current = current.1;
       code = code;
+      most = stood.2.most;
       last = last;
       at_end = at-end;
       given = given.0;
@@ -588,6 +619,7 @@ module _ {R : Type 0} (law : RefusalsAreOfKeys) (entries : List SwitchEntry) (va
 
   pub switch-made : MakesSwitch entries value otherwise old new answers (Ok answer.Nothing)
   switch-made = record {
+    full = λ told. absurd (no-full told);
     loans = emits.loans;
     name = emits.grows.3;
     ready = λ naming declared calls ready. behind calls ready;

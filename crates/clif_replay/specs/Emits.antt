@@ -1,7 +1,7 @@
 -- What the functions do that make a call of a script with a constant as an operand, a switch, and a memory helper: such a call is an
 -- emission of the script, and for it the builder is asked plain calls: those of the constant and of the instruction, those of the
 -- switch, or those of the helper. Own.
-use Rattle.std.specs.Prelude.{◌≡◌, ◌≢◌, ◌<◌, ◌+◌, ◌&&◌, ℕ, ℤ, suc, List, [], ◌∷◌, ◌++◌, length, slice_get, map, is_some, Some, Bool, true, false, OnOk, IfOk, Result, Ok, Err}
+use Rattle.std.specs.Prelude.{◌≡◌, ◌≢◌, ◌<◌, ◌≤◌, ◌+◌, ◌&&◌, ℕ, ℤ, suc, List, [], ◌∷◌, ◌++◌, length, slice_get, map, is_some, Some, Bool, true, false, OnOk, IfOk, Result, Ok, Err}
 use Rattle.clif_types.specs.Signature.{SignatureShape}
 use Rattle.clif_types.specs.Types.{is_int}
 use Rattle.clif_types.specs.declared.error.BuildError.{BuildError}
@@ -28,6 +28,9 @@ use Rattle.clif_builder.specs.Built.{BuildsValue}
 use Rattle.clif_builder.specs.Ledger.{ledger_of}
 use Rattle.clif_memory_helpers.specs.HelperLines.{HelpersAreLines, how_of}
 use Rattle.clif_memory_helpers.specs.Helpers.{Answers, FillsWith, Helps, helper_calls}
+use Rattle.clif_memory_helpers.specs.Sizes.{helper_makes}
+use Rattle.clif_meaning.specs.Sizes.{Table, made_by_script}
+use Rattle.clif_switch_calls.specs.SwitchSizes.{switch_makes}
 use Rattle.clif_calls.specs.declared.call.Name.{Name}
 use Rattle.clif_calls.specs.declared.call.Call.{Call}
 use Rattle.clif_calls.specs.declared.call.Call.TheVariants as call
@@ -43,10 +46,10 @@ use Rattle.clif_resolution.specs.declared.answers.Answer.TheVariants as answer
 use Rattle.clif_resolution.specs.declared.condition.Condition.{Condition}
 use Rattle.clif_resolution.specs.declared.answers.CallError.{CallError}
 use Rattle.clif_resolution.specs.declared.answers.CallError.TheVariants as error
-use Rattle.clif_replay.specs.Cases.{switch_under}
+use Rattle.clif_replay.specs.Cases.{keys_of, switch_under}
 use Rattle.clif_replay.specs.declared.make_memory.Operands.{Operands}
 use Rattle.clif_replay.specs.Helpers.{IsSized, first_answer, helper_under, moves_nothing, operands_in, operation_in}
-use Rattle.clif_replay.specs.Limits.{EmissionMeetsFullTable}
+use Rattle.clif_replay.specs.Limits.{EmissionMeetsFullTable, MayFill}
 use Rattle.clif_replay.specs.Makes.{MakesCall}
 use Rattle.clif_replay.specs.Ready.{IsCallJudged, IsJudged, IsReady, no_answer}
 use Rattle.clif_replay.specs.Requests.{Naming, emission_under, operand_in, operand_type}
@@ -126,6 +129,7 @@ pub record IsReadyBehindSwitch {R : Type 0} (naming : Naming) (declared : Signat
   pub is : switch ≡ switching keys ty value edges
   pub current : (ledger_of calls).current ≡ Some block
   pub code : IsSwitchCode (script_of calls) (script_of added) block value ty keys edges branches tables
+  pub most : (table : Table) → made_by_script (script_of added) table ≤ switch_makes (length keys) table
   pub last : ℕ
   pub at_end : length (calls ++ added) ≡ suc last
   pub given : List Answered
@@ -136,7 +140,8 @@ pub record IsReadyBehindSwitch {R : Type 0} (naming : Naming) (declared : Signat
   pub nothing : answer ≡ no_answer
   pub ready : IsReady extended declared (calls ++ added) b (answers ++ answer ∷ [])
 
--- A switch was made, or wasn't. It is refused for its keys alone. Variables have the types that they had.
+-- A switch was made, or wasn't. It is refused for its keys alone, and `Full` is told only where it may fill a table. Variables have the
+-- types that they had.
 pub record MakesSwitch {R : Type 0} (entries : List SwitchEntry) (value otherwise : Name) (old new : FunctionBuilder R) (answers : List Answer) (result : Result Answer CallError) : Type 0 where
   pub loans : SameLoans old new
   pub name : OnOk result (new.func.now.name ≡ old.func.now.name)
@@ -144,6 +149,7 @@ pub record MakesSwitch {R : Type 0} (entries : List SwitchEntry) (value otherwis
       → IfOk result (IsReadyBehindSwitch naming declared calls (switch_under naming (ledger_of calls) entries value otherwise) new answers)
   pub judged : (naming : Naming) (declared : SignatureShape) (calls : List AnsweredCall) → IsReady naming declared calls old answers
       → IsSwitchJudged (ledger_of calls) (switch_under naming (ledger_of calls) entries value otherwise) result
+  pub full : result ≡ Err error.Full → MayFill (switch_makes (length (keys_of entries))) old.func.now
   pub sound : OnOk result (new.failed ≡ false)
   pub variables : OnOk result (new.ctx.now.parts.variables ≡ old.ctx.now.parts.variables)
 
@@ -169,7 +175,8 @@ pub record IsReadyBehindHelper {R : Type 0} (config : TargetFrontendConfig) (cal
       → extended name ≡ named.answer_of last (first_answer (how_of (operation_in called)) given + name.answer)
   pub ready : IsReady extended declared (calls ++ added) b (answers ++ answer ∷ [])
 
--- A helper of some bytes was made, or wasn't. It is never refused, and variables have the types that they had.
+-- A helper of some bytes was made, or wasn't. It is never refused, `Full` is told only where it may fill a table, and variables have the
+-- types that they had.
 pub record MakesHelper {R : Type 0} (config : TargetFrontendConfig) (called : MemoryCall) (old new : FunctionBuilder R) (answers : List Answer) (result : Result Answer CallError) : Type 0 where
   pub loans : SameLoans old new
   pub name : OnOk result (new.func.now.name ≡ old.func.now.name)
@@ -177,6 +184,7 @@ pub record MakesHelper {R : Type 0} (config : TargetFrontendConfig) (called : Me
       → IfOk result (IsReadyBehindHelper config called naming declared calls new answers)
   pub judged : (naming : Naming) (declared : SignatureShape) (calls : List AnsweredCall) → IsReady naming declared calls old answers
       → IsJudged (call_allowed (ledger_of calls) (helper_under config naming (ledger_of calls) called)) false result
+  pub full : result ≡ Err error.Full → MayFill (helper_makes config (operation_in called)) old.func.now
   pub sound : OnOk result (new.failed ≡ false)
   pub refused : (why : Condition) → result ≢ Err (error.Refused why)
   pub variables : OnOk result (new.ctx.now.parts.variables ≡ old.ctx.now.parts.variables)

@@ -2,6 +2,7 @@ pub mod Cases
 pub mod Entries
 pub mod Helpers
 pub mod Errors
+pub mod Sums
 pub mod Limits
 pub mod Requests
 pub mod Replayed

@@ -49,7 +49,7 @@ pub record Makes {R : Type 0} (asks : Naming → SignatureShape → Ledger → R
 -- for this call
 abbrev pub MakesCall : {R : Type 0} → Call → FunctionBuilder R → FunctionBuilder R → List Answer → Result Answer CallError → Type 0
 MakesCall call old new answers result =
-    Makes (λ naming declared ledger. request_under naming declared ledger call) (is_tried call) (MeetsFullTable (numbers_at old.func.now answers) call old.func.now old.ctx.now.parts) (types_after call old.ctx.now.parts.variables) old new answers result
+    Makes (λ naming declared ledger. request_under naming declared ledger call) (is_tried call) (MeetsFullTable (numbers_at old.func.now answers) call old.func.now old.ctx.now.parts old.position) (types_after call old.ctx.now.parts.variables) old new answers result
 
 -- for an instruction of this plan
 abbrev pub MakesPlan : {R : Type 0} → Plan → FunctionBuilder R → FunctionBuilder R → List Answer → Result Answer CallError → Type 0

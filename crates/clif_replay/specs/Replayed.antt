@@ -38,7 +38,8 @@ use Rattle.clif_expansion.specs.ScriptCall.{Ask, Emit, ScriptCall, call_allowed,
 use Rattle.clif_replay.specs.declared.script.ReplayError.{ReplayError}
 use Rattle.clif_replay.specs.declared.script.ReplayError.TheVariants as replay
 use Rattle.clif_replay.specs.Entries.{numbers_in}
-use Rattle.clif_replay.specs.Limits.{MeetsFullTable}
+use Rattle.clif_replay.specs.Limits.{StopsAtFullTable}
+use Rattle.clif_replay.specs.Sums.{LacksConstant, MayFillTable}
 use Rattle.clif_replay.specs.Requests.{attempts_from, attempts_of, call_of, calls_of, is_refusable, name_of}
 
 abbrev pub AreBytesOf : (pointer_width : ℕ) → Operation → «Type» → Type 0
@@ -148,7 +149,7 @@ TellsVerdict config calls declared answer =
 
 -- A full table ends a list of calls: the calls before some place were made, and a builder of a function of this name and
 -- signature, with this context and current block, stands for them; and the call at that place is allowed then, and meets a full
--- table.
+-- table, which the calls up to it may fill, or lacks a constant.
 pub record IsStoppedByTable (config : TargetFrontendConfig) (calls : List Call) (name : UserFuncName) (declared : SignatureShape) : Type 0 where
   pub place : ℕ
   pub call : Call
@@ -163,7 +164,10 @@ pub record IsStoppedByTable (config : TargetFrontendConfig) (calls : List Call) 
   pub allowed :
       let ledger = ledger_of (calls_of config declared (take place calls)) in
       call_allowed ledger (call_of config declared ledger call) ≡ true
-  pub meets : MeetsFullTable (numbers_in name_of (ledger_of (calls_of config declared (take place calls)))) call function context
+  pub meets : StopsAtFullTable config (numbers_in name_of (ledger_of (calls_of config declared (take place calls)))) call function context position
+  pub sums :
+      let before = calls_of config declared (take place calls) in
+      MayFillTable config before (call_of config declared (ledger_of before) call) ⊎ LacksConstant call function context
 
 -- A full table ends the spills of recorded values, of which there are some.
 pub record IsStoppedInSpilling (config : TargetFrontendConfig) (calls : List Call) (declared : SignatureShape) : Type 0 where

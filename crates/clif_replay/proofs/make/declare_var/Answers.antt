@@ -22,9 +22,9 @@ returns-in_err-variable g c =
 pub returns : goal.returns
 returns g c =
     let done = c.in_ok-variable.ensures in
-    made-answer c.args.builder.now c.declare_var.new.self c.args.answers.now (answer.Variable c.in_ok-variable.variable) c.declare_var.ensures.call.loans done.grows.3
+    made-answer c.args.builder.now c.declare_var.new.self c.args.answers.now (answer.Variable c.in_ok-variable.variable) c.declare_var.ensures.call.loans done.goes_on.grows.3
     (answered-sound _ c.declare_var.result _ c.declare_var.ensures.call.fails c.in_ok-variable.was) (ap (λ (x : ContextState). x.variables) done.variables)
     (λ naming declared calls ready. sym c.is_valid.ensures ∙ c.if-not-is_valid.false)
     (λ naming declared calls ready.
     let number : length (ledger_of calls).variables ≡ c.in_ok-variable.variable = (read calls c.args.builder.now c.args.answers.now ready).variable_count ∙ sym done.number in
-    (c.in_ok-variable.variable ∷ [], ready-more calls _ c.args.builder.now c.declare_var.new.self _ (answer.Variable c.in_ok-variable.variable) ready tt (done.grows.6, done.grows.8) (done.told.stands declared calls ready.stands tt) (ap (λ (n : ℕ). AVariable n ∷ []) number, refl)))
+    (c.in_ok-variable.variable ∷ [], ready-more calls _ c.args.builder.now c.declare_var.new.self _ (answer.Variable c.in_ok-variable.variable) ready tt (done.goes_on.grows.6, done.goes_on.grows.8) (done.told.stands declared calls ready.stands tt) (ap (λ (n : ℕ). AVariable n ∷ []) number, refl)))

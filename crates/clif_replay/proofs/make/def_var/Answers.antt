@@ -58,9 +58,9 @@ returns-in_err-def_var g c =
 pub returns : goal.returns
 returns g c =
     let done = c.in_ok-def_var.ensures in
-    made-answer c.args.builder.now c.def_var.new.self c.args.answers.now answer.Nothing c.def_var.ensures.call.loans done.grows.3
+    made-answer c.args.builder.now c.def_var.new.self c.args.answers.now answer.Nothing c.def_var.ensures.call.loans done.goes_on.grows.3
     (answered-sound _ c.def_var.result _ c.def_var.ensures.call.fails c.in_ok-def_var.was) c.def_var.ensures.variables
     (λ naming declared calls ready. Conditions.define-some calls c.args.builder.now c.args.answers.now ready c.args.variable c.args.name c.in-Some.value c.in-Some-type_of.ty (ap (λ (f : Body). value_of f c.args.answers.now c.args.name) (sym c.func.ensures) ∙ sym c.value_named.ensures ∙ c.in-Some.is) (ap (λ (types : List «Type»). slice_get types c.args.variable) (sym c.requires.types) ∙ sym c.type_of.ensures ∙ c.in-Some-type_of.is) ∙ sym c.may_define.ensures ∙ c.if-not-may_define.false)
     (λ naming declared calls ready.
     let names = value-found calls c.args.builder.now c.args.answers.now ready c.args.name c.in-Some.value (ap (λ (f : Body). value_of f c.args.answers.now c.args.name) (sym c.func.ensures) ∙ sym c.value_named.ensures ∙ c.in-Some.is) in
-    ([], ready-more calls _ c.args.builder.now c.def_var.new.self _ answer.Nothing ready tt (done.grows.6, done.grows.8) ((done.told (naming c.args.name)).stands declared calls ready.stands names) (refl, refl)))
+    ([], ready-more calls _ c.args.builder.now c.def_var.new.self _ answer.Nothing ready tt (done.goes_on.grows.6, done.goes_on.grows.8) ((done.told (naming c.args.name)).stands declared calls ready.stands names) (refl, refl)))

@@ -46,13 +46,13 @@ returns-in-Ok g c =
     let here = sym c.has_current.ensures ∙ c.if-not-has_current.false in
     let found = ap (λ (f : Body). value_of f c.args.answers.now c.args.name) (sym c.func.ensures) ∙ sym c.value_named.ensures ∙ c.in-Some.is in
     let typed = subst (λ told. OnOk told (slice_get c.args.builder.now.ctx.now.parts.variables c.args.variable ≡ Some (value_at c.args.builder.now.func.now value).ty)) c.in-Ok.is done.same_type in
-    made-answer c.args.builder.now c.try_def_var.new.self c.args.answers.now answer.Nothing c.try_def_var.ensures.call.loans done.grows.3
+    made-answer c.args.builder.now c.try_def_var.new.self c.args.answers.now answer.Nothing c.try_def_var.ensures.call.loans done.goes_on.grows.3
     (answered-sound _ c.try_def_var.result _ c.try_def_var.ensures.call.fails c.in_ok-try_def_var.was) c.try_def_var.ensures.variables
     (λ naming declared calls ready. Conditions.define-typed calls c.args.builder.now c.args.answers.now ready c.args.variable c.args.name value here found typed)
     (λ naming declared calls ready.
     let told = subst (λ told. IsTold c.args.builder.now c.try_def_var.new.self told (λ calls. NamesValue calls (naming c.args.name) value) (λ _. answered (DefVar c.args.variable (naming c.args.name)) [])) c.in-Ok.is (done.told (naming c.args.name)) in (
       [],
-      ready-more calls _ c.args.builder.now c.try_def_var.new.self _ answer.Nothing ready tt (done.grows.6, done.grows.8)
+      ready-more calls _ c.args.builder.now c.try_def_var.new.self _ answer.Nothing ready tt (done.goes_on.grows.6, done.goes_on.grows.8)
           (told.stands declared calls ready.stands (value-found calls c.args.builder.now c.args.answers.now ready c.args.name value found)) (refl, refl),
     ))
 

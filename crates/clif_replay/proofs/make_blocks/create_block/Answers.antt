@@ -15,7 +15,7 @@ returns-in_err-block g c =
 pub returns : goal.returns
 returns g c =
     let done = c.in_ok-block.ensures in
-    made-answer c.args.builder.now c.create_block.new.self c.args.answers.now (answer.Block c.in_ok-block.block) c.create_block.ensures.call.loans done.grows.3
+    made-answer c.args.builder.now c.create_block.new.self c.args.answers.now (answer.Block c.in_ok-block.block) c.create_block.ensures.call.loans done.goes_on.grows.3
     (answered-sound _ c.create_block.result _ c.create_block.ensures.call.fails c.in_ok-block.was) c.create_block.ensures.variables
     (λ naming declared calls ready. refl)
-    (λ naming declared calls ready. (c.in_ok-block.block ∷ [], ready-more calls _ c.args.builder.now c.create_block.new.self _ (answer.Block c.in_ok-block.block) ready tt (done.grows.6, done.grows.8) (done.told.stands declared calls ready.stands tt) (refl, refl)))
+    (λ naming declared calls ready. (c.in_ok-block.block ∷ [], ready-more calls _ c.args.builder.now c.create_block.new.self _ (answer.Block c.in_ok-block.block) ready tt (done.goes_on.grows.6, done.goes_on.grows.8) (done.told.stands declared calls ready.stands tt) (refl, refl)))

@@ -22,7 +22,7 @@ returns-in_err-ensure_inserted_block g c =
 pub returns : goal.returns
 returns g c =
     let done = c.in_ok-ensure_inserted_block.ensures in
-    made-answer c.args.builder.now c.ensure_inserted_block.new.self c.args.answers.now answer.Nothing c.ensure_inserted_block.ensures.call.loans done.grows.3
+    made-answer c.args.builder.now c.ensure_inserted_block.new.self c.args.answers.now answer.Nothing c.ensure_inserted_block.ensures.call.loans done.goes_on.grows.3
     (answered-sound _ c.ensure_inserted_block.result _ c.ensure_inserted_block.ensures.call.fails c.in_ok-ensure_inserted_block.was) c.ensure_inserted_block.ensures.variables
     (λ naming declared calls ready. open-same calls c.args.builder.now c.args.answers.now ready ∙ sym c.has_current.ensures ∙ c.if-not-has_current.false)
-    (λ naming declared calls ready. ([], ready-more calls _ c.args.builder.now c.ensure_inserted_block.new.self _ answer.Nothing ready tt (done.grows.6, done.grows.8) (done.told.stands declared calls ready.stands tt) (refl, refl)))
+    (λ naming declared calls ready. ([], ready-more calls _ c.args.builder.now c.ensure_inserted_block.new.self _ answer.Nothing ready tt (done.goes_on.grows.6, done.goes_on.grows.8) (done.told.stands declared calls ready.stands tt) (refl, refl)))

@@ -53,7 +53,7 @@ returns-in_err-insert_block_after g c =
 pub returns : goal.returns
 returns g c =
     let done = c.in_ok-insert_block_after.ensures in
-    made-answer c.args.builder.now c.insert_block_after.new.self c.args.answers.now answer.Nothing c.insert_block_after.ensures.call.loans done.grows.3
+    made-answer c.args.builder.now c.insert_block_after.new.self c.args.answers.now answer.Nothing c.insert_block_after.ensures.call.loans done.goes_on.grows.3
     (answered-sound _ c.insert_block_after.result _ c.insert_block_after.ensures.call.fails c.in_ok-insert_block_after.was) (ap (λ (x : ContextState). x.variables) c.insert_block_after.ensures.context)
     (λ naming declared calls ready. insert-some calls c.args.builder.now c.args.answers.now ready c.args.name c.args.behind c.in-Some.block c.in-Some-block_named.after (sym c.block_named.ensures ∙ c.in-Some.is) (sym c.block_named-2.ensures ∙ c.in-Some-block_named.is) ∙ sym c.may_insert.ensures ∙ c.if-not-may_insert.false)
-    (λ naming declared calls ready. ([], ready-more calls _ c.args.builder.now c.insert_block_after.new.self _ answer.Nothing ready tt (done.grows.6, done.grows.8) ((done.told (naming c.args.name) (naming c.args.behind)).stands declared calls ready.stands (block-found calls c.args.builder.now c.args.answers.now ready c.args.name c.in-Some.block (sym c.block_named.ensures ∙ c.in-Some.is), block-found calls c.args.builder.now c.args.answers.now ready c.args.behind c.in-Some-block_named.after (sym c.block_named-2.ensures ∙ c.in-Some-block_named.is))) (refl, refl)))
+    (λ naming declared calls ready. ([], ready-more calls _ c.args.builder.now c.insert_block_after.new.self _ answer.Nothing ready tt (done.goes_on.grows.6, done.goes_on.grows.8) ((done.told (naming c.args.name) (naming c.args.behind)).stands declared calls ready.stands (block-found calls c.args.builder.now c.args.answers.now ready c.args.name c.in-Some.block (sym c.block_named.ensures ∙ c.in-Some.is), block-found calls c.args.builder.now c.args.answers.now ready c.args.behind c.in-Some-block_named.after (sym c.block_named-2.ensures ∙ c.in-Some-block_named.is))) (refl, refl)))

@@ -28,14 +28,15 @@ returns-in_err-seal_block g c =
     made-refused c.args.builder.now c.seal_block.new.self c.args.answers.now c.seal_block.result c.in_err-seal_block.field-0.0 p.0 c.from_residual.result c.in_err-seal_block.was p.1 p.2 done.call.loans c.requires.sound done.call.failed
     (λ naming declared calls ready. Conditions.seal-some calls c.args.builder.now c.args.answers.now ready c.args.name c.in-Some.block (sym c.block_named.ensures ∙ c.in-Some.is) ∙ sym c.may_seal.ensures ∙ c.if-not-may_seal.false) (λ full. (
       c.seal_block.new.self.func.now,
-      done.constructs,
+      done.leaves.constructs,
       one-block c.args.builder.now.func.now c.seal_block.new.self.func.now c.args.builder.now.ctx.now.parts.ssa c.in-Some.block (block-there c.requires.calls c.args.builder.now c.args.answers.now c.requires.ready c.args.name c.in-Some.block (sym c.block_named.ensures ∙ c.in-Some.is)) (done.full full),
+      λ calls agrees. done.leaves.within calls agrees full,
     ))
 
 pub returns : goal.returns
 returns g c =
     let done = c.in_ok-seal_block.ensures in
-    made-answer c.args.builder.now c.seal_block.new.self c.args.answers.now answer.Nothing c.seal_block.ensures.call.loans done.grows.3
-    (answered-sound _ c.seal_block.result _ c.seal_block.ensures.call.fails c.in_ok-seal_block.was) c.seal_block.ensures.variables
+    made-answer c.args.builder.now c.seal_block.new.self c.args.answers.now answer.Nothing c.seal_block.ensures.call.loans done.goes_on.grows.3
+    (answered-sound _ c.seal_block.result _ c.seal_block.ensures.call.fails c.in_ok-seal_block.was) c.seal_block.ensures.leaves.variables
     (λ naming declared calls ready. Conditions.seal-some calls c.args.builder.now c.args.answers.now ready c.args.name c.in-Some.block (sym c.block_named.ensures ∙ c.in-Some.is) ∙ sym c.may_seal.ensures ∙ c.if-not-may_seal.false)
-    (λ naming declared calls ready. ([], ready-more calls _ c.args.builder.now c.seal_block.new.self _ answer.Nothing ready tt (done.grows.6, done.grows.8) ((done.told (naming c.args.name)).stands declared calls ready.stands (block-found calls c.args.builder.now c.args.answers.now ready c.args.name c.in-Some.block (sym c.block_named.ensures ∙ c.in-Some.is))) (refl, refl)))
+    (λ naming declared calls ready. ([], ready-more calls _ c.args.builder.now c.seal_block.new.self _ answer.Nothing ready tt (done.goes_on.grows.6, done.goes_on.grows.8) ((done.told (naming c.args.name)).stands declared calls ready.stands (block-found calls c.args.builder.now c.args.answers.now ready c.args.name c.in-Some.block (sym c.block_named.ensures ∙ c.in-Some.is))) (refl, refl)))

@@ -16,6 +16,6 @@ pub returns : goal.returns
 returns g c =
     let done = c.set_cold_block.ensures in
     let new = c.set_cold_block.new.self in
-    made-answer c.args.builder.now new c.args.answers.now answer.Nothing done.loans done.grows.3 (done.failed ∙ c.requires.sound) (ap (λ (x : ContextState). x.variables) done.context)
+    made-answer c.args.builder.now new c.args.answers.now answer.Nothing done.loans done.goes_on.grows.3 (done.failed ∙ c.requires.sound) (ap (λ (x : ContextState). x.variables) done.context)
     (λ naming declared calls ready. cold-some calls c.args.builder.now c.args.answers.now ready c.args.name c.in-Some.block (sym c.block_named.ensures ∙ c.in-Some.is))
-    (λ naming declared calls ready. ([], ready-more calls _ c.args.builder.now new _ answer.Nothing ready tt (done.grows.6, done.grows.8) (done.stands declared calls (naming c.args.name) ready.stands (block-found calls c.args.builder.now c.args.answers.now ready c.args.name c.in-Some.block (sym c.block_named.ensures ∙ c.in-Some.is))) (refl, refl)))
+    (λ naming declared calls ready. ([], ready-more calls _ c.args.builder.now new _ answer.Nothing ready tt (done.goes_on.grows.6, done.goes_on.grows.8) (done.stands declared calls (naming c.args.name) ready.stands (block-found calls c.args.builder.now c.args.answers.now ready c.args.name c.in-Some.block (sym c.block_named.ensures ∙ c.in-Some.is))) (refl, refl)))

@@ -66,7 +66,7 @@ returns g c =
     let old = c.args.builder.now in
     let new = c.change_jump_destination.new.self in
     let done = c.in_ok-change_jump_destination.ensures in
-    made-answer old new c.args.answers.now answer.Nothing c.change_jump_destination.ensures.call.loans done.grows.3
+    made-answer old new c.args.answers.now answer.Nothing c.change_jump_destination.ensures.call.loans done.goes_on.grows.3
     (answered-sound _ c.change_jump_destination.result _ c.change_jump_destination.ensures.call.fails c.in_ok-change_jump_destination.was) done.redirects.variables.0
     (λ naming declared calls ready.
     change-some c.leads_are_read_by_number.ensures calls old c.args.answers.now ready c.args.branch c.args.from c.args.to c.in-Some.inst
@@ -74,7 +74,7 @@ returns g c =
     (sym c.block_named-2.ensures ∙ c.in-Some-block_named-2.is) ∙ sym c.may_change.ensures ∙ c.if-not-may_change.false)
     (λ naming declared calls ready. (
       [],
-      ready-more calls _ old new c.args.answers.now answer.Nothing ready tt (done.grows.6, done.grows.8)
+      ready-more calls _ old new c.args.answers.now answer.Nothing ready tt (done.goes_on.grows.6, done.goes_on.grows.8)
           (done.stands declared calls (naming c.args.branch) (naming c.args.from) (naming c.args.to) ready.stands
           (inst-found calls old c.args.answers.now ready c.args.branch c.in-Some.inst (sym c.inst_named.ensures ∙ c.in-Some.is))
           (block-found calls old c.args.answers.now ready c.args.from c.in-Some-block_named.source (sym c.block_named.ensures ∙ c.in-Some-block_named.is))

@@ -32,11 +32,11 @@ returns-in_err-value g c =
 pub returns : goal.returns
 returns g c =
     let done = c.in_ok-value.ensures in
-    made-answer c.args.builder.now c.append_block_param.new.self c.args.answers.now c.one_value.result c.append_block_param.ensures.call.loans done.grows.3
+    made-answer c.args.builder.now c.append_block_param.new.self c.args.answers.now c.one_value.result c.append_block_param.ensures.call.loans done.goes_on.grows.3
     (answered-sound _ c.append_block_param.result _ c.append_block_param.ensures.call.fails c.in_ok-value.was) (ap (λ (x : ContextState). x.variables) c.append_block_param.ensures.context)
     (λ naming declared calls ready. Conditions.append-some calls c.args.builder.now c.args.answers.now ready c.args.name c.in-Some.block (c.args.ty ∷ []) (sym c.block_named.ensures ∙ c.in-Some.is) ∙ sym c.may_append.ensures ∙ c.if-not-may_append.false)
     (λ naming declared calls ready.
     let names = block-found calls c.args.builder.now c.args.answers.now ready c.args.name c.in-Some.block (sym c.block_named.ensures ∙ c.in-Some.is) in
     let value = c.in_ok-value.value in
     subst (λ (a : Answer). IsReadyAfter naming declared calls (AppendBlockParams (naming c.args.name) (c.args.ty ∷ [])) c.append_block_param.new.self c.args.answers.now a) (sym c.one_value.ensures)
-    (value ∷ [], ready-more calls _ c.args.builder.now c.append_block_param.new.self _ (answer.Values value 1) ready tt (done.grows.6, done.grows.8) ((done.told (naming c.args.name)).stands declared calls ready.stands names) (c.args.ty ∷ [], refl, refl, refl)))
+    (value ∷ [], ready-more calls _ c.args.builder.now c.append_block_param.new.self _ (answer.Values value 1) ready tt (done.goes_on.grows.6, done.goes_on.grows.8) ((done.told (naming c.args.name)).stands declared calls ready.stands names) (c.args.ty ∷ [], refl, refl, refl)))

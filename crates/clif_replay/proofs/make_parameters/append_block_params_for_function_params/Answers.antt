@@ -45,7 +45,7 @@ returns-in_err-append_block_params_for_function_params g c =
 pub last_params-requires-clause-exists : goal.last_params-requires-clause-exists
 last_params-requires-clause-exists g c =
     let there = block-there c.requires.calls c.args.builder.now c.args.answers.now c.requires.ready c.args.name c.in-Some.block (sym c.block_named.ensures ∙ c.in-Some.is) in
-    let grows = c.in_ok-append_block_params_for_function_params.ensures.grows in
+    let grows = c.in_ok-append_block_params_for_function_params.ensures.goes_on.grows in
     omega (arith, there, grows.2)
 
 pub last_params-requires-clause-count : goal.last_params-requires-clause-count
@@ -59,7 +59,7 @@ last_params-requires-clause-count g c =
 pub returns : goal.returns
 returns g c =
     let done = c.in_ok-append_block_params_for_function_params.ensures in
-    made-answer c.args.builder.now c.append_block_params_for_function_params.new.self c.args.answers.now c.last_params.result c.append_block_params_for_function_params.ensures.call.loans done.grows.3
+    made-answer c.args.builder.now c.append_block_params_for_function_params.new.self c.args.answers.now c.last_params.result c.append_block_params_for_function_params.ensures.call.loans done.goes_on.grows.3
     (answered-sound _ c.append_block_params_for_function_params.result _ c.append_block_params_for_function_params.ensures.call.fails c.in_ok-append_block_params_for_function_params.was) (ap (λ (x : ContextState). x.variables) c.append_block_params_for_function_params.ensures.context)
     (λ naming declared calls ready. Conditions.function-params-some calls c.args.builder.now c.args.answers.now ready c.args.name c.in-Some.block (types_of declared.params) (sym c.block_named.ensures ∙ c.in-Some.is) ∙ sym c.may_append_function_params.ensures ∙ c.if-not-may_append_function_params.false)
     (λ naming declared calls ready.
@@ -71,5 +71,5 @@ returns g c =
     let viewed = ap (λ (s : SignatureShape). length s.params) (c.behind-func.view_is ∙ c.signature.ensures ∙ ap (λ (f : Body). f.signature) c.func.ensures) in
     let counted = c.len-count.ensures in
     subst (λ (s : SignatureShape). IsReadyAfter naming declared calls (AppendFunctionParams (naming c.args.name) (types_of s.params)) new c.args.answers.now c.last_params.result) ready.stands.signature
-    (params-ready calls old new c.args.answers.now (AppendFunctionParams (naming c.args.name) (types_of old.func.now.signature.params)) c.in-Some.block old.func.now.signature.params c.len-count.result c.last_params.result ready tt (done.grows.6, done.grows.8) there
+    (params-ready calls old new c.args.answers.now (AppendFunctionParams (naming c.args.name) (types_of old.func.now.signature.params)) c.in-Some.block old.func.now.signature.params c.len-count.result c.last_params.result ready tt (done.goes_on.grows.6, done.goes_on.grows.8) there
     done.function ((done.told (naming c.args.name)).stands declared calls ready.stands names) refl (omega (arith, viewed, counted)) c.last_params.ensures))

@@ -35,7 +35,7 @@ returns-in_err-append_block_params_for_function_returns g c =
 pub last_params-requires-clause-exists : goal.last_params-requires-clause-exists
 last_params-requires-clause-exists g c =
     let there = block-there c.requires.calls c.args.builder.now c.args.answers.now c.requires.ready c.args.name c.in-Some.block (sym c.block_named.ensures ∙ c.in-Some.is) in
-    let grows = c.in_ok-append_block_params_for_function_returns.ensures.grows in
+    let grows = c.in_ok-append_block_params_for_function_returns.ensures.goes_on.grows in
     omega (arith, there, grows.2)
 
 pub last_params-requires-clause-count : goal.last_params-requires-clause-count
@@ -49,7 +49,7 @@ last_params-requires-clause-count g c =
 pub returns : goal.returns
 returns g c =
     let done = c.in_ok-append_block_params_for_function_returns.ensures in
-    made-answer c.args.builder.now c.append_block_params_for_function_returns.new.self c.args.answers.now c.last_params.result c.append_block_params_for_function_returns.ensures.call.loans done.grows.3
+    made-answer c.args.builder.now c.append_block_params_for_function_returns.new.self c.args.answers.now c.last_params.result c.append_block_params_for_function_returns.ensures.call.loans done.goes_on.grows.3
     (answered-sound _ c.append_block_params_for_function_returns.result _ c.append_block_params_for_function_returns.ensures.call.fails c.in_ok-append_block_params_for_function_returns.was) (ap (λ (x : ContextState). x.variables) c.append_block_params_for_function_returns.ensures.context)
     (λ naming declared calls ready. Conditions.append-some calls c.args.builder.now c.args.answers.now ready c.args.name c.in-Some.block (types_of declared.returns) (sym c.block_named.ensures ∙ c.in-Some.is) ∙ sym c.may_append.ensures ∙ c.if-not-may_append.false)
     (λ naming declared calls ready.
@@ -61,5 +61,5 @@ returns g c =
     let viewed = ap (λ (s : SignatureShape). length s.returns) (c.behind-func.view_is ∙ c.signature.ensures ∙ ap (λ (f : Body). f.signature) c.func.ensures) in
     let counted = c.len-count.ensures in
     subst (λ (s : SignatureShape). IsReadyAfter naming declared calls (AppendBlockParams (naming c.args.name) (types_of s.returns)) new c.args.answers.now c.last_params.result) ready.stands.signature
-    (params-ready calls old new c.args.answers.now (AppendBlockParams (naming c.args.name) (types_of old.func.now.signature.returns)) c.in-Some.block old.func.now.signature.returns c.len-count.result c.last_params.result ready tt (done.grows.6, done.grows.8) there
+    (params-ready calls old new c.args.answers.now (AppendBlockParams (naming c.args.name) (types_of old.func.now.signature.returns)) c.in-Some.block old.func.now.signature.returns c.len-count.result c.last_params.result ready tt (done.goes_on.grows.6, done.goes_on.grows.8) there
     done.function ((done.told (naming c.args.name)).stands declared calls ready.stands names) refl (omega (arith, viewed, counted)) c.last_params.ensures))

@@ -24,7 +24,8 @@ use Rattle.clif_expansion.specs.Reading.{NotMade}
 use Rattle.clif_replay.proofs.Replays.{last-place, loans-then, made-all, made-memory, misuse-place, refused-there}
 use Rattle.std.proofs.lemmas.Result.{err_from_is_err_and}
 use Rattle.clif_resolution.specs.Entries.{Numbers}
-use Rattle.clif_replay.specs.Limits.{MeetsFullTable}
+use Rattle.clif_replay.specs.Limits.{StopsAtFullTable}
+use Rattle.clif_replay.proofs.Filling.{may-fill}
 use Rattle.clif_replay.proofs.Stepping.{IsInStep, in-step-numbers, step}
 use Rattle.clif_replay.proofs.Verdicts.{HasRest, calls-more, calls_before, full-told, misuse-told, refusal-at, refusal-told, rest-more}
 use Rattle.clif_replay.proofs.script.make_calls.Goals as goal
@@ -72,6 +73,7 @@ starts config declared b reads stands tables exceptions = record {
   };
   taken = tt;
   counts = refl;
+  sizes = λ table. omega arith;
 }
 
 take-none : (calls : List Call) → take 0 calls ≡ []
@@ -167,8 +169,12 @@ returns-in-Err-clause-table_full g c = λ told.
       named = invariant.name;
       allowed = allowed-full c.in-Err.error is_full _ _ _ judged;
       meets =
-          subst (λ (numbers : Numbers). MeetsFullTable numbers call builder.func.now builder.ctx.now.parts)
+          subst (λ (numbers : Numbers). StopsAtFullTable c.args.config numbers call builder.func.now builder.ctx.now.parts builder.position)
           (in-step-numbers c.args.config declared (calls_before c.args.config declared calls place) builder _ before) (made.full (ap Err is_full));
+      sums =
+          may-fill c.args.config declared (calls_before c.args.config declared calls place) builder _ before call
+          (subst (λ (numbers : Numbers). StopsAtFullTable c.args.config numbers call builder.func.now builder.ctx.now.parts builder.position)
+          (in-step-numbers c.args.config declared (calls_before c.args.config declared calls place) builder _ before) (made.full (ap Err is_full)));
     }
 
 pub returns-in_err-note_call-in-Ok : goal.returns-in_err-note_call-in-Ok
