@@ -1,6 +1,6 @@
 -- What goes on holding of a builder's blocks and values while more calls are made.
 use Rattle.std.proofs.Common.{◌≡◌, ◌≢◌, ℕ, ◌<◌, ◌≤◌, false, List, [], ◌∷◌, ◌++◌, length, refl, sym, ◌∙◌, ap, subst, arith}
-use Rattle.std.specs.Prelude.{true, slice_index, slice_index_or, slice_get, Some, None, Ok, Err, OnOk, Result}
+use Rattle.std.specs.Prelude.{◌||◌, IfSome, IsTrue, Option, true, slice_index, slice_index_or, slice_get, Some, None, Ok, Err, OnOk, Result}
 use Rattle.std.proofs.lemmas.Option.{slice_get_within}
 use Rattle.clif_types.specs.declared.types.«Type».{«Type»}
 use Rattle.clif_types.specs.declared.error.BuildError.{BuildError}
@@ -15,7 +15,8 @@ use Rattle.clif_ssa.proofs.Passing.{some_pushed}
 use Rattle.clif_ssa.specs.Ssa.{SameBlocks, SealedStays, SsaState, no_state, record_of, sealed_of}
 use Rattle.clif_builder.specs.declared.builder.FunctionBuilder.{FunctionBuilder}
 use Rattle.clif_builder.specs.declared.context.BlockStatus.TheVariants.{Filled}
-use Rattle.clif_builder.specs.Builder.{CanLead, HasCurrent, IsLeft, with_position}
+use Rattle.clif_builder.specs.Builder.{CanLead, HasCurrent, IsLeft, is_free, is_free_at, is_unreachable, may_be_left, with_position}
+use Rattle.clif_builder.specs.declared.context.BlockStatus.{BlockStatus}
 use Rattle.clif_builder.specs.Built.{Builds, BuildsValue}
 use Rattle.clif_builder.specs.Calls.{IsCall}
 use Rattle.clif_builder.specs.Construction.{SealsAtMost}
@@ -285,6 +286,14 @@ first_exists {bound = bound} (v ∷ values) is some each = subst (λ (x : ℕ). 
 pub left_ended : {R : Type 0} {lent built back : FunctionBuilder R} {shape : InstructionData} {ty : «Type»} {inst : ℕ}
     → Builds lent built shape ty (Ok inst) → is_terminator shape ≡ true → back ≡ built → IsLeft back
 left_ended ends last came = subst IsLeft (sym came) (ends.left last)
+
+-- and one may be put into another block
+pub free_left : {R : Type 0} (b : FunctionBuilder R) → IsLeft b → IsTrue (is_free b)
+free_left b left = by b.position left.filled
+  where
+    by : (position : Option ℕ) → IfSome position (λ block. status_of b.ctx.now.parts block ≡ Filled) → IsTrue (is_free_at position b.func.now b.ctx.now.parts)
+    by None filled = refl
+    by (Some block) filled = ap (λ (status : BlockStatus). may_be_left status || is_unreachable b.func.now b.ctx.now.parts block) filled
 
 -- a variable has the type of what was made at the type of its own value, with a result of that type
 pub typed_alike : {R : Type 0} {read lent built back : FunctionBuilder R} {shape : InstructionData} {variables : List «Type»} {made : ℕ} (variable value : ℕ)

@@ -4,7 +4,7 @@
 //! for isn't made, so that the test of its row fails.
 #![tactic(auto)]
 
-ghost use Rattle.std.specs.Prelude.{◌≡◌, ◌∷◌, []};
+ghost use Rattle.std.specs.Prelude.{◌≡◌, ◌∷◌, [], Bool, IsTrue, ℕ};
 ghost use Rattle.clif_instructions.specs.Instruction.{AFunctionRef, ASignatureRef, ASlot};
 ghost use Rattle.clif_instructions.specs.declared.block_call.BlockArg.TheVariants as arg;
 ghost use Rattle.clif_inst_builder.specs.Shapes.{edge_to};
@@ -30,7 +30,9 @@ fn float_const<B: ResultBuilder>(ins: &mut B, opcode: FloatConstOpcode) -> bool
 }
 
 fn pooled_const<B: ResultBuilder>(ins: &mut B, opcode: PooledConstOpcode) -> bool
-    requires { B.can_build ins.old }
+    requires asked { (holds : Bool) → IsTrue holds → B.asks (IsTrue holds) }
+    requires measured { (m n : ℕ) → m ≡ n → B.asks (m ≡ n) }
+    requires current { B.can_build ins.old }
 {
     match opcode {
         PooledConstOpcode::F128const => ins.f128const(&BYTES).is_ok(),
@@ -49,6 +51,7 @@ fn unary<B: ResultBuilder>(ins: &mut B, opcode: UnaryOpcode, x: Value) -> bool
 }
 
 fn convert<B: ResultBuilder>(ins: &mut B, opcode: ConvertOpcode, x: Value) -> bool
+    requires asked { (holds : Bool) → IsTrue holds → B.asks (IsTrue holds) }
     requires current { B.can_build ins.old }
     requires x_exists { B.has_value ins.old x }
 {
@@ -83,6 +86,7 @@ fn binary<B: ResultBuilder>(ins: &mut B, opcode: BinaryOpcode, x: Value, y: Valu
 }
 
 fn stack<B: ResultBuilder>(ins: &mut B, opcode: StackOpcode, slot: StackSlot) -> bool
+    requires asked { (holds : Bool) → IsTrue holds → B.asks (IsTrue holds) }
     requires current { B.can_build ins.old }
     requires slot_exists { B.has_entry ins.old (ASlot slot) }
 {
@@ -104,6 +108,7 @@ fn cond_trap<B: ResultBuilder>(ins: &mut B, opcode: CondTrapOpcode, x: Value, y:
 }
 
 fn isplit<B: ResultBuilder>(ins: &mut B, p: Value) -> bool
+    requires asked { (holds : Bool) → IsTrue holds → B.asks (IsTrue holds) }
     requires current { B.can_build ins.old }
     requires p_exists { B.has_value ins.old p }
     requires p_type { B.type_of ins.old p ≡ I64 }
@@ -113,6 +118,7 @@ fn isplit<B: ResultBuilder>(ins: &mut B, p: Value) -> bool
 
 // Those that compute from operands.
 fn compute<B: ResultBuilder>(ins: &mut B, opcode: Opcode, x: Value, y: Value, p: Value) -> bool
+    requires asked { (holds : Bool) → IsTrue holds → B.asks (IsTrue holds) }
     requires current { B.can_build ins.old }
     requires x_exists { B.has_value ins.old x }
     requires x_type { B.type_of ins.old x ≡ I32 }
@@ -134,6 +140,7 @@ fn compute<B: ResultBuilder>(ins: &mut B, opcode: Opcode, x: Value, y: Value, p:
 
 // Those that read or write memory.
 fn reach<B: ResultBuilder>(ins: &mut B, opcode: Opcode, x: Value, p: Value, slot: StackSlot) -> bool
+    requires asked { (holds : Bool) → IsTrue holds → B.asks (IsTrue holds) }
     requires current { B.can_build ins.old }
     requires x_exists { B.has_value ins.old x }
     requires p_exists { B.has_value ins.old p }
@@ -182,6 +189,8 @@ fn leave<B: ResultBuilder>(ins: &mut B, opcode: Opcode, x: Value, y: Value) -> b
 /// Makes the instruction of a row by its method, and says whether that succeeded. Those that take a table of their own
 /// aren't made here.
 pub fn make<B: ResultBuilder>(ins: &mut B, opcode: Opcode, given: &Given) -> bool
+    requires asked { (holds : Bool) → IsTrue holds → B.asks (IsTrue holds) }
+    requires measured { (m n : ℕ) → m ≡ n → B.asks (m ≡ n) }
     requires current { B.can_build ins.old }
     requires x_exists { B.has_value ins.old given.now.x }
     requires x_type { B.type_of ins.old given.now.x ≡ I32 }

@@ -186,3 +186,16 @@ return_-requires-3-clause-values_exist g c =
     (carries_then (carries_moved c.in_ok-other.other c.switch_to_block-4.ensures.builder)
     (carries_then (carries_called fourth.call fourth.goes_on.grows fourth.leaves.variables) (carries_kept (same c.ins-5.ensures.builder)))) in
     one_exists (omega (arith, c.in_ok-n.ensures.exists, (to_zero g at.After-ins-2).values, (to_seven g at.After-ins-4).values, to_other.values))
+
+pub iconst-requires-clause-current : goal.iconst-requires-clause-current
+iconst-requires-clause-current g c =
+    subst HasCurrent (sym c.ins.ensures.builder) (c.in_ok-seal_block-2.ensures.goes_on.current c.switch_to_block-2.ensures.current)
+
+pub switch_to_block-requires-4-clause-exists : goal.switch_to_block-requires-4-clause-exists
+switch_to_block-requires-4-clause-exists g c =
+    let at = goal.at.switch_to_block-requires-4-clause-exists g c in
+    let entry = at.After-ins in
+    let block : ℕ = c.in_ok-other.other in
+    let before = open_in_zero g at.After-ins-2 block (zero_other g entry) (open_behind g entry block (entry_other g entry) (other_made g entry)) in
+    (open_ended c.in_ok-return_-2.ensures.built (c.builder-20-1.given.1 (sym c.ins-4.ensures.same))
+    (open_in_seven g at.After-ins-4 block (seven_other g entry) before)).exists

@@ -241,11 +241,11 @@ switch_to_block-requires-4-clause-exists g c =
     let body = body_kept g at.After-ins-7 in
     omega (
       arith,
-      before.used.exists,
+      before.exists,
       c.in_ok-seal_block-2.ensures.goes_on.grows.2,
       c.in_ok-seal_block-3.ensures.goes_on.grows.2,
       entered,
-      body.goes_on.grows.2,
+      body.grows.2,
       c.in_ok-jump-2.ensures.built.grows.2,
       came,
       c.in_ok-seal_block-4.ensures.goes_on.grows.2,
@@ -266,3 +266,87 @@ use_var-requires-4-clause-declared g c =
 pub return_-requires-clause-values_exist : goal.return_-requires-clause-values_exist
 return_-requires-clause-values_exist g c =
     one_exists (subst (λ (b : FunctionBuilder _). c.in_ok-total.total < length b.func.now.values) (sym c.ins-8.ensures.builder) c.in_ok-total.ensures.used.exists)
+
+-- THE CURRENT BLOCK -----------------------------------------------------------------------------------------------------
+
+pub use_var-requires-3-clause-current : goal.use_var-requires-3-clause-current
+use_var-requires-3-clause-current g c =
+    c.in_ok-before.ensures.goes_on.current c.switch_to_block-3.ensures.current
+
+pub ins-requires-4 : goal.ins-requires-4
+ins-requires-4 g c =
+    c.in_ok-count.ensures.goes_on.current (c.in_ok-before.ensures.goes_on.current c.switch_to_block-3.ensures.current)
+
+pub iadd-requires-clause-current : goal.iadd-requires-clause-current
+iadd-requires-clause-current g c =
+    subst HasCurrent (sym c.ins-4.ensures.builder) (c.in_ok-count.ensures.goes_on.current (c.in_ok-before.ensures.goes_on.current c.switch_to_block-3.ensures.current))
+
+pub ins-requires-5 : goal.ins-requires-5
+ins-requires-5 g c =
+    c.in_ok-def_var-3.ensures.goes_on.current
+    (subst HasCurrent (sym (c.builder-26-1.given.1 (sym c.ins-4.ensures.same))) c.in_ok-after.ensures.built.current)
+
+pub iconst-requires-2-clause-current : goal.iconst-requires-2-clause-current
+iconst-requires-2-clause-current g c =
+    subst HasCurrent (sym c.ins-5.ensures.builder) (c.in_ok-def_var-3.ensures.goes_on.current
+    (subst HasCurrent (sym (c.builder-26-1.given.1 (sym c.ins-4.ensures.same))) c.in_ok-after.ensures.built.current))
+
+pub ins-requires-7 : goal.ins-requires-7
+ins-requires-7 g c =
+    c.in_ok-def_var-4.ensures.goes_on.current
+    (subst HasCurrent (sym (c.builder-31-1.given.1 (sym c.ins-6.ensures.same))) c.in_ok-less.ensures.built.current)
+
+pub jump-requires-2-clause-current : goal.jump-requires-2-clause-current
+jump-requires-2-clause-current g c =
+    subst HasCurrent (sym c.ins-7.ensures.builder) (c.in_ok-def_var-4.ensures.goes_on.current
+    (subst HasCurrent (sym (c.builder-31-1.given.1 (sym c.ins-6.ensures.same))) c.in_ok-less.ensures.built.current))
+
+pub ins-requires-8 : goal.ins-requires-8
+ins-requires-8 g c =
+    c.in_ok-total.ensures.goes_on.current c.switch_to_block-4.ensures.current
+
+pub return_-requires-clause-current : goal.return_-requires-clause-current
+return_-requires-clause-current g c =
+    subst HasCurrent (sym c.ins-8.ensures.builder) (c.in_ok-total.ensures.goes_on.current c.switch_to_block-4.ensures.current)
+
+-- WHAT IS NAMED ---------------------------------------------------------------------------------------------------------
+
+pub def_var-requires-3-clause-declared : goal.def_var-requires-3-clause-declared
+def_var-requires-3-clause-declared g c =
+    let after : Keeps c.use_var-3.new.self c.builder-26-1.given.0 = valued c.ins-4.ensures.builder c.in_ok-after.ensures.built (c.builder-26-1.given.1 (sym c.ins-4.ensures.same)) in
+    declared c.switch_to_block-3.new.self.ctx.now.parts.variables c.in_ok-sum.sum _ c.in_ok-before.ensures.used.typed
+    (after.variables ∙ c.in_ok-count.ensures.used.variables ∙ c.in_ok-before.ensures.used.variables)
+
+pub def_var-requires-4-clause-declared : goal.def_var-requires-4-clause-declared
+def_var-requires-4-clause-declared g c =
+    let after : Keeps c.use_var-3.new.self c.builder-26-1.given.0 = valued c.ins-4.ensures.builder c.in_ok-after.ensures.built (c.builder-26-1.given.1 (sym c.ins-4.ensures.same)) in
+    let one : Keeps c.def_var-3.new.self c.builder-29-1.given.0 = valued c.ins-5.ensures.builder c.in_ok-one.ensures.built (c.builder-29-1.given.1 (sym c.ins-5.ensures.same)) in
+    let less : Keeps c.builder-29-1.given.0 c.builder-31-1.given.0 = valued c.ins-6.ensures.builder c.in_ok-less.ensures.built (c.builder-31-1.given.1 (sym c.ins-6.ensures.same)) in
+    declared c.use_var-2.new.self.ctx.now.parts.variables c.in_ok-n.n _ c.in_ok-count.ensures.used.typed
+    (less.variables ∙ one.variables ∙ c.in_ok-def_var-3.ensures.variables ∙ after.variables ∙ c.in_ok-count.ensures.used.variables)
+
+pub isub-requires-clause-x_exists : goal.isub-requires-clause-x_exists
+isub-requires-clause-x_exists g c =
+    let values : FunctionBuilder _ → ℕ = λ (b : FunctionBuilder _). length b.func.now.values in
+    let lent = ap values c.ins-4.ensures.builder in
+    let built = ap values (c.builder-26-1.given.1 (sym c.ins-4.ensures.same)) in
+    let lent_next = ap values c.ins-5.ensures.builder in
+    let built_next = ap values (c.builder-29-1.given.1 (sym c.ins-5.ensures.same)) in
+    let lent_last = ap values c.ins-6.ensures.builder in
+    omega (
+      arith,
+      c.in_ok-count.ensures.used.exists,
+      lent,
+      c.in_ok-after.ensures.built.grows.0,
+      built,
+      c.in_ok-def_var-3.ensures.goes_on.grows.0,
+      lent_next,
+      c.in_ok-one.ensures.built.grows.0,
+      built_next,
+      lent_last,
+    )
+
+pub isub-requires-clause-y_exists : goal.isub-requires-clause-y_exists
+isub-requires-clause-y_exists g c =
+    subst (λ (b : FunctionBuilder _). c.in_ok-one.one < length b.func.now.values)
+    (sym (c.ins-6.ensures.builder ∙ c.builder-29-1.given.1 (sym c.ins-5.ensures.same))) c.in_ok-one.ensures.built.exists

@@ -6,8 +6,9 @@ use Rattle.clif_types.specs.declared.types.«Type».TheVariants.{Lane}
 use Rattle.clif_types.specs.declared.types.LaneType.TheVariants.{I32}
 use Rattle.clif_ir.specs.Body.{value_at}
 use Rattle.clif_builder.specs.declared.builder.FunctionBuilder.{FunctionBuilder}
+use Rattle.clif_builder.specs.Builder.{HasCurrent}
 use Rattle.clif_builder.specs.Context.{ContextState}
-use Rattle.uses.proofs.Lasting.{Keeps, Carries, IsOpen, IsUnfilled, and_then, created, same_context, assigned, valued, lent_on, same, carries_then, carries_kept, carries_called, carries_ended, carries_moved, made_open, made_unfilled, open_kept, unfilled_kept, open_sealed, unfilled_called, open_ended, unfilled_ended, open_moved, unfilled_moved, leads, made_before, not_below, one_exists, typed_alike, declared, last_declared}
+use Rattle.uses.proofs.Lasting.{Keeps, Carries, IsOpen, IsUnfilled, and_then, created, same_context, assigned, valued, lent_on, same, carries_then, carries_kept, carries_called, carries_ended, carries_moved, made_open, made_unfilled, open_kept, unfilled_kept, open_sealed, unfilled_called, open_ended, unfilled_ended, open_moved, unfilled_moved, leads, free_left, left_ended, made_before, not_below, one_exists, typed_alike, declared, last_declared}
 use Rattle.uses.proofs.diamond.diamond.Given.{Over}
 use Rattle.uses.proofs.diamond.diamond.Goals as goal
 use Rattle.uses.proofs.diamond.diamond.Goals.{After-ins, After-ins-2, After-ins-3, After-ins-4, After-ins-5}
@@ -269,3 +270,47 @@ use_var-requires-clause-declared g c =
 pub return_-requires-clause-values_exist : goal.return_-requires-clause-values_exist
 return_-requires-clause-values_exist g c =
     one_exists (subst (λ (b : FunctionBuilder _). c.in_ok-result.result < length b.func.now.values) (sym c.ins-6.ensures.builder) c.in_ok-result.ensures.used.exists)
+
+-- THE CURRENT BLOCK -----------------------------------------------------------------------------------------------------
+
+pub ins-requires-2 : goal.ins-requires-2
+ins-requires-2 g c =
+    c.in_ok-seal_block-2.ensures.goes_on.current c.switch_to_block-2.ensures.current
+
+pub isub-requires-clause-current : goal.isub-requires-clause-current
+isub-requires-clause-current g c =
+    subst HasCurrent (sym c.ins-2.ensures.builder) (c.in_ok-seal_block-2.ensures.goes_on.current c.switch_to_block-2.ensures.current)
+
+pub ins-requires-4 : goal.ins-requires-4
+ins-requires-4 g c =
+    c.in_ok-seal_block-3.ensures.goes_on.current c.switch_to_block-3.ensures.current
+
+pub isub-requires-2-clause-current : goal.isub-requires-2-clause-current
+isub-requires-2-clause-current g c =
+    subst HasCurrent (sym c.ins-4.ensures.builder) (c.in_ok-seal_block-3.ensures.goes_on.current c.switch_to_block-3.ensures.current)
+
+pub ins-requires-5 : goal.ins-requires-5
+ins-requires-5 g c =
+    c.in_ok-def_var-2.ensures.goes_on.current
+    (subst HasCurrent (sym (c.builder-23-1.given.1 (sym c.ins-4.ensures.same))) c.in_ok-opposite.ensures.built.current)
+
+pub jump-requires-2-clause-current : goal.jump-requires-2-clause-current
+jump-requires-2-clause-current g c =
+    subst HasCurrent (sym c.ins-5.ensures.builder) (c.in_ok-def_var-2.ensures.goes_on.current
+    (subst HasCurrent (sym (c.builder-23-1.given.1 (sym c.ins-4.ensures.same))) c.in_ok-opposite.ensures.built.current))
+
+pub switch_to_block-requires-4-clause-free : goal.switch_to_block-requires-4-clause-free
+switch_to_block-requires-4-clause-free g c =
+    free_left c.builder-26-1.given.0 (left_ended c.in_ok-jump-2.ensures.built refl (c.builder-26-1.given.1 (sym c.ins-5.ensures.same)))
+
+pub use_var-requires-clause-current : goal.use_var-requires-clause-current
+use_var-requires-clause-current g c =
+    c.in_ok-seal_block-4.ensures.goes_on.current c.switch_to_block-4.ensures.current
+
+pub ins-requires-6 : goal.ins-requires-6
+ins-requires-6 g c =
+    c.in_ok-result.ensures.goes_on.current (c.in_ok-seal_block-4.ensures.goes_on.current c.switch_to_block-4.ensures.current)
+
+pub return_-requires-clause-current : goal.return_-requires-clause-current
+return_-requires-clause-current g c =
+    subst HasCurrent (sym c.ins-6.ensures.builder) (c.in_ok-result.ensures.goes_on.current (c.in_ok-seal_block-4.ensures.goes_on.current c.switch_to_block-4.ensures.current))

@@ -8,7 +8,7 @@ use Rattle.clif_types.specs.declared.types.LaneType.TheVariants.{I64}
 use Rattle.clif_builder.specs.Builder.{HasCurrent}
 use Rattle.clif_builder.specs.Context.{ContextState}
 use Rattle.clif_builder.specs.declared.builder.FunctionBuilder.{FunctionBuilder}
-use Rattle.uses.proofs.Lasting.{Keeps, Carries, IsOpen, IsUnfilled, and_then, appended, called, carries_kept, carries_called, carries_ended, carries_moved, carries_then, created, imported, marked, same, same_context, assigned, valued, lent_on, made_open, made_unfilled, open_kept, unfilled_kept, open_sealed, unfilled_called, open_ended, unfilled_ended, open_moved, unfilled_moved, leads, made_before, not_below, one_exists, last_declared, typed_anew, unused}
+use Rattle.uses.proofs.Lasting.{Keeps, Carries, IsOpen, IsUnfilled, and_then, appended, called, carries_kept, carries_called, carries_ended, carries_moved, carries_then, created, imported, marked, same, same_context, assigned, valued, lent_on, made_open, made_unfilled, open_kept, unfilled_kept, open_sealed, unfilled_called, open_ended, unfilled_ended, open_moved, unfilled_moved, leads, left_ended, made_before, not_below, one_exists, last_declared, typed_anew, unused}
 use Rattle.uses.proofs.last_node.last_node.Given.{Over}
 use Rattle.uses.proofs.last_node.last_node.Goals as goal
 use Rattle.uses.proofs.last_node.last_node.Goals.{After-ins, After-ins-2, After-ins-4}
@@ -201,3 +201,8 @@ return_-requires-clause-values_exist g c =
     (carries_then (carries_called body.call body.goes_on.grows body.leaves.variables) (carries_then (carries_called exit.call exit.goes_on.grows exit.leaves.variables)
     (carries_then (carries_moved c.in_ok-exit.exit c.switch_to_block-3.ensures.builder) (carries_kept (same c.ins-5.ensures.builder)))))) in
     one_exists (omega (arith, c.in_ok-here.ensures.used.exists, to_exit.values))
+
+pub switch_to_block-requires-3-clause-free : goal.switch_to_block-requires-3-clause-free
+switch_to_block-requires-3-clause-free g c =
+    c.in_ok-seal_block-3.ensures.call.free (c.in_ok-seal_block-2.ensures.call.left
+    (left_ended c.in_ok-brif.ensures.built refl (c.builder-21-1.given.1 (sym c.ins-4.ensures.same))))
