@@ -75,6 +75,20 @@ nones n = replicate n None
 none_both : (n m : ℕ) → nones n ++ nones m ≡ nones (n + m)
 none_both n m = replicate-append-replicate n m None
 
+-- how many tables nodes have
+abbrev pub table_total : List Node → ℕ
+table_total [] = 0
+table_total (node ∷ nodes) = tables_of node.test + table_total nodes
+
+pub total_counts : (nodes : List Node) → table_total nodes ≡ count_by is_table nodes
+total_counts nodes = is_count_by table_total is_table refl (λ node more. one node.test (table_total more)) nodes
+  where
+    one : (t : Test) (n : ℕ) → tables_of t + n ≡ cond (is_table (record { number = 0; test = t })) (1 + n) n
+    one test.Nothing n = omega arith
+    one (test.OneKey range other) n = omega arith
+    one (test.NotBelow first above other) n = omega arith
+    one (test.Table range) n = refl
+
 module _ (s : Switched) where
   idle_compared : (condition : IntCC) (number place : ℕ) (taken other : Name) → Idle (compared s condition number place taken other)
   idle_compared condition number place taken other =
@@ -134,11 +148,6 @@ module _ (s : Switched) where
       ∙ sym (append-nil ledger.jump_tables)
   test_served tables (test.Table range) place ledger count = table_served tables place range.now ledger count
 
-  -- how many tables nodes have
-  abbrev table_total : List Node → ℕ
-  table_total [] = 0
-  table_total (node ∷ nodes) = tables_of node.test + table_total nodes
-
   idle_entering : (blocks : List Name) (number : ℕ) → Idle (entering blocks number)
   idle_entering blocks zero = tt
   idle_entering blocks (suc n) = (tt, (tt, tt))
@@ -172,15 +181,6 @@ module _ (s : Switched) where
       as_many_copies : (n : ℕ) → length (nones n) ≡ n
       as_many_copies zero = refl
       as_many_copies (suc n) = ap suc (as_many_copies n)
-
-  total_counts : (nodes : List Node) → table_total nodes ≡ count_by is_table nodes
-  total_counts nodes = is_count_by table_total is_table refl (λ node more. one node.test (table_total more)) nodes
-    where
-      one : (t : Test) (n : ℕ) → tables_of t + n ≡ cond (is_table (record { number = 0; test = t })) (1 + n) n
-      one test.Nothing n = omega arith
-      one (test.OneKey range other) n = omega arith
-      one (test.NotBelow first above other) n = omega arith
-      one (test.Table range) n = refl
 
   -- as many tables are made and served as there are nodes with one
   pub tables_served : (nodes : List Node) (place : ℕ) (ledger : Ledger)

@@ -1,15 +1,14 @@
 -- How many entries of tables the plain calls of a switch make at most.
 use Rattle.std.proofs.Common.{◌≡◌, ◌≤◌, ◌<◌, ◌+◌, ◌*◌, ℕ, zero, suc, Bool, true, false, List, [], ◌∷◌, ◌++◌, length, map, reverse, refl, sym, ◌∙◌, ap, ap₂, subst, arith, cond, length-append}
-use Rattle.std.specs.Prelude.{◌^◌, ◌-◌, ◌/◌, ◌==◌, ◌&&◌, if◌then◌else◌, nat_le, nat_lt, ℤ, max, slice_index_or, All, Contains}
+use Rattle.std.specs.Prelude.{◌^◌, ◌-◌, ◌/◌, ◌==◌, ◌&&◌, if◌then◌else◌, nat_le, nat_lt, ℤ, max, slice_index_or}
 use Rattle.std.specs.List.{AllByRecursion, count_by, enumerate_from, flat_map}
 use Rattle.std.proofs.lemmas.Bool.Decides.{nat_tests}
 use Rattle.std.proofs.lemmas.List.{length-map, length-reverse}
 use Rattle.std.proofs.lemmas.List.Elements.{recursion_from_All}
-use Rattle.std.proofs.lemmas.List.Recursion.{is_count_by, is_sum_by}
-use Rattle.std.proofs.lemmas.List.Sums.{sum_by-append}
+use Rattle.std.proofs.lemmas.List.Recursion.{is_sum_by}
 use Rattle.std.specs.FinMap as finite
 use Rattle.clif_opcodes.specs.declared.opcodes.BinaryOpcode.TheVariants.{Iadd, Isub}
-use Rattle.clif_opcodes.specs.declared.opcodes.ConvertOpcode.TheVariants.{Ireduce, Sextend, Uextend}
+use Rattle.clif_opcodes.specs.declared.opcodes.ConvertOpcode.TheVariants.{Ireduce, Uextend}
 use Rattle.clif_types.specs.declared.condcodes.IntCC.{IntCC}
 use Rattle.clif_types.specs.declared.condcodes.IntCC.TheVariants as cc
 use Rattle.clif_types.specs.declared.types.LaneType.TheVariants as lane
@@ -22,21 +21,21 @@ use Rattle.clif_ranges.specs.declared.search.Next.TheVariants as next
 use Rattle.clif_ranges.specs.declared.search.Node.{Node}
 use Rattle.clif_ranges.specs.declared.search.Test.{Test}
 use Rattle.clif_ranges.specs.declared.search.Test.TheVariants as test
-use Rattle.clif_ranges.specs.Cases.{CaseMap}
 use Rattle.clif_ranges.specs.Ranges.{AreRangesOf, cases_of}
-use Rattle.clif_ranges.specs.Search.{AreFew, AreInOrder, AreTestsOf, IsTestOf, is_long, is_table, makes_table, named_by, number_of}
+use Rattle.clif_ranges.specs.Search.{AreFew, AreInOrder, AreTestsOf, IsTestOf, is_long, named_by, number_of}
 use Rattle.clif_meaning.specs.Acceptance.{jump, table_branch}
-use Rattle.clif_meaning.specs.Instruction.{Arithmetic, Binary, Compare, Concat, Convert, Iconst, Compute, Instruction}
+use Rattle.clif_meaning.specs.Instruction.{Arithmetic, Binary, Compare, Concat, Convert, Iconst, Instruction}
 use Rattle.clif_meaning.specs.Name.{Name, answer_of}
 use Rattle.clif_meaning.specs.Program.{result_types}
-use Rattle.clif_meaning.specs.Request.{Request, CreateBlock, SwitchToBlock, SealBlock, MakeEdge, MakeJumpTable, Build, ServedBy, Script}
-use Rattle.clif_meaning.specs.Sizes.{Table, Blocks, Constants, Instructions, JumpTables, Values, constants_for, made_by, made_by_script}
+use Rattle.clif_meaning.specs.Request.{CreateBlock, SwitchToBlock, SealBlock, MakeEdge, MakeJumpTable, Build, ServedBy, Script}
+use Rattle.clif_meaning.specs.Sizes.{Table, Blocks, Constants, Instructions, JumpTables, Values, constants_for, made_by_script}
 use Rattle.clif_expansion.specs.ConstantCalls.{constant_instructions, constant_name}
 use Rattle.clif_expansion.specs.Constants.{computing, i64}
 use Rattle.clif_expansion.specs.Emission.{building}
+use Rattle.clif_switch_calls.proofs.Served.{table_total, total_counts}
 use Rattle.clif_switch_calls.specs.SwitchCalls.{Switched, answers_of, bare_edge, block_for, blocks_with, branching, compared, difference, difference_name, entering, first_block, i8, i32, index_calls, index_name, is_composed, is_subtracted, is_widest, name_for, negated_64, node_calls, nodes_calls, number_instructions, number_name, signed_64, table_calls, table_targets, tables_of, test_calls, with_number, with_number_name}
-use Rattle.clif_switch_calls.specs.SwitchLaw.{SearchesCases, case_keys}
-use Rattle.clif_switch_calls.specs.SwitchSizes.{SwitchCallsAreFew, SwitchesMakeFew, nodes_make, so_many, switch_makes, test_makes}
+use Rattle.clif_switch_calls.specs.SwitchLaw.{case_keys}
+use Rattle.clif_switch_calls.specs.SwitchSizes.{SwitchCallsAreFew, nodes_make, so_many, switch_makes, test_makes}
 
 -- SUMS --------------------------------------------------------------------------------------------------------------------
 
@@ -362,20 +361,6 @@ calls_few s blocks tables (node ∷ nodes) place table =
     let later = calls_few s (blocks_with blocks node place) (tables + tables_of node.test) nodes (place + length (node_calls s blocks tables node place)) table in
     omega (arith, whole, both, none, one, later)
 
--- how many of them are tables
-abbrev tables_in : List Node → ℕ
-tables_in [] = 0
-tables_in (node ∷ nodes) = tables_of node.test + tables_in nodes
-
-tables_counted : (nodes : List Node) → tables_in nodes ≡ count_by is_table nodes
-tables_counted nodes = is_count_by tables_in is_table refl (λ node more. one node.test (tables_in more)) nodes
-  where
-    one : (t : Test) (n : ℕ) → tables_of t + n ≡ cond (makes_table t) (1 + n) n
-    one test.Nothing n = omega arith
-    one (test.OneKey range other) n = omega arith
-    one (test.NotBelow first above other) n = omega arith
-    one (test.Table range) n = refl
-
 -- how many nodes are named first by these
 abbrev named_in : List Node → ℕ
 named_in [] = 0
@@ -391,12 +376,12 @@ one_makes (test.NotBelow first above other) table =
 one_makes (test.Table range) table = more_many 8 10 1 1 8 10 1 1 (omega arith) (omega arith) (omega arith) (omega arith) table
 
 all_make : (nodes : List Node) (table : Table)
-    → nodes_make nodes table ≤ so_many (4 * length nodes + 4 * tables_in nodes) (5 * length nodes + 5 * tables_in nodes) (named_in nodes + tables_in nodes) (tables_in nodes) table
+    → nodes_make nodes table ≤ so_many (4 * length nodes + 4 * table_total nodes) (5 * length nodes + 5 * table_total nodes) (named_in nodes + table_total nodes) (table_total nodes) table
 all_make [] table = omega arith
 all_make (node ∷ nodes) table =
     let one = one_makes node.test table in
     let rest = all_make nodes table in
-    let n : ℕ = length nodes in let k : ℕ = tables_of node.test in let t : ℕ = tables_in nodes in let m : ℕ = length (named_by node.test) in let a : ℕ = named_in nodes in
+    let n : ℕ = length nodes in let k : ℕ = tables_of node.test in let t : ℕ = table_total nodes in let m : ℕ = length (named_by node.test) in let a : ℕ = named_in nodes in
     let sum = both_many (4 + 4 * k) (5 + 5 * k) (m + k) k (4 * n + 4 * t) (5 * n + 5 * t) (a + t) t table in
     let same = more_many (4 + 4 * k + (4 * n + 4 * t)) (5 + 5 * k + (5 * n + 5 * t)) (m + k + (a + t)) (k + t)
     (4 * suc n + 4 * (k + t)) (5 * suc n + 5 * (k + t)) (m + a + (k + t)) (k + t) (omega arith) (omega arith) (omega arith) (omega arith) table in
@@ -477,10 +462,10 @@ nodes_few entries (range ∷ ranges) nodes are tests order small table =
     let many = keys_enough (range ∷ ranges) filled in
     let all = ap length are.cases in
     let same = long_counted (range ∷ ranges) in
-    let told = tables_counted nodes in
+    let told = total_counts nodes in
     let counted = tests.tables in
     let is = all_make nodes table in
-    let less = enough (length (range ∷ ranges)) (tables_in nodes) (length entries) (length nodes) (named_in nodes) (omega arith) (omega (arith, small, same, told, counted))
+    let less = enough (length (range ∷ ranges)) (table_total nodes) (length entries) (length nodes) (named_in nodes) (omega arith) (omega (arith, small, same, told, counted))
     (named_once (0 ∷ []) 1 nodes order) (omega (arith, many, all, same, told, counted)) table in
     omega (arith, is, less)
 
