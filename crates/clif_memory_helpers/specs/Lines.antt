@@ -65,12 +65,12 @@ abbrev pub Results : Type 0
 Results = (place : ℕ) (names : List Name) → List Name
 
 -- Calls were made in a line on these operands: where the builder stood for a list of calls, it stands for the list with these plain
--- calls at its end, and these names lead to what is answered. Also where only some were made, the function has no more entries than
--- they make.
+-- calls at its end, and these names lead to what is answered.
 pub record Makes {A : Type 0} {R : Type 0} (operands : List ℕ) (made : Requests) (results : Results) (values : A → List ℕ) (old new : FunctionBuilder R) (answer : Result A BuildError) : Type 0 where
   pub line : InLine old new answer
   pub stands : (signature : SignatureShape) (calls : List AnsweredCall) (names : List Name) → StandsFor signature calls old → AllZip (NamesValue calls) names operands
       → IfOk answer (λ a. StandsOn signature calls (made (length calls) names) (results (length calls) names) (values a) new)
+  -- whatever is answered but `Memory`, the function has at most the entries more that these calls make
   pub most : (place : ℕ) (names : List Name) → length names ≡ length operands → AddsAtMost (made_by_script (made place names)) old new answer
 
 -- nothing is answered
